@@ -1,0 +1,4 @@
+pub mod Ring
+pub mod Integers
+pub mod Naturals
+pub mod Tests

@@ -1,0 +1,3 @@
+pub mod Radix
+pub mod Value
+pub mod ErrorFree
