@@ -1,0 +1,12 @@
+pub mod Symmetric
+pub mod Gamma
+pub mod Correction
+pub mod Work
+pub mod Invariant
+pub mod Rows
+pub mod Bounds
+pub mod Closing
+pub mod Judging
+pub mod States
+pub mod Agreement
+pub mod Books
