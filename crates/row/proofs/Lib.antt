@@ -1,0 +1,4 @@
+pub mod Orders
+pub mod Passes
+pub mod Rows
+pub mod Renewal

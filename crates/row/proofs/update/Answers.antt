@@ -1,0 +1,43 @@
+use borrow.Author.Needs.{needs}
+use Rattle.coefficients.specs.Row.{new-cell}
+use Rattle.row.proofs.update.Needs as need
+
+pub returns-in-rest : need.returns-in-rest
+unfolding new-cell
+returns-in-rest g c = search needs
+
+pub returns-in-rest-split-sum : need.returns-in-rest-split-sum
+unfolding new-cell
+returns-in-rest-split-sum g c = search needs
+
+pub returns-in-rest-sum : need.returns-in-rest-sum
+unfolding new-cell
+returns-in-rest-sum g c = search needs
+
+pub returns-in-rest-sum-2 : need.returns-in-rest-sum-2
+unfolding new-cell
+returns-in-rest-sum-2 g c = search needs
+
+pub returns-in-rest-product : need.returns-in-rest-product
+unfolding new-cell
+returns-in-rest-product g c = search needs
+
+pub returns-in-rest-sum-3 : need.returns-in-rest-sum-3
+unfolding new-cell
+returns-in-rest-sum-3 g c = search needs
+
+pub returns-in-rest-sum-4 : need.returns-in-rest-sum-4
+unfolding new-cell
+returns-in-rest-sum-4 g c = search needs
+
+pub returns-in-rest-product-2 : need.returns-in-rest-product-2
+unfolding new-cell
+returns-in-rest-product-2 g c = search needs
+
+pub returns-in-rest-sum-5 : need.returns-in-rest-sum-5
+unfolding new-cell
+returns-in-rest-sum-5 g c = search needs
+
+pub returns : need.returns
+unfolding new-cell
+returns g c = search needs
