@@ -1,0 +1,18 @@
+-- What closing answers, by the values of its numbers.
+use lib.IntN.{ℤ}
+use Prim.Native.Nat.{ℕ}
+use Rattle.std.specs.declared.result.Result.{Result}
+use Rattle.std.specs.declared.result.Result.the-variants.{Ok, Err}
+use Rattle.arithmetic.specs.Meaning.{Meaning, Number}
+use Rattle.coefficients.specs.Row.{Trial, done, stopped}
+use Rattle.coefficients.specs.Closing.{Closed}
+
+-- a value with its bound, or the operation refused
+abbrev pub closing : {N : Type 0} → (N → ℤ) → Result (N × N) ℕ → Trial Closed
+closing value (Ok p) = done (record { value = value (p .0); bound = value (p .1) })
+closing value (Err o) = stopped o
+
+-- the value and the bound are numbers
+abbrev pub Gives-numbers : {N : Type 0} → Meaning → (N → ℤ) → Result (N × N) ℕ → Type 0
+Gives-numbers m value (Ok p) = Number m (value (p .0)) × Number m (value (p .1))
+Gives-numbers m value (Err o) = Unit {0}
