@@ -1,0 +1,43 @@
+// Why a call is refused: the first of its questions that is answered no.
+ghost use mathlib.Core.Path.{_≡_};
+ghost use Rattle.bench.specs.declared.refusal.Refusal.the-variants.{AddingOutOfRange, NotAdmitted};
+use arithmetic::cause::Cause;
+use row::cell::OutOfRange;
+
+#[derive(Clone, Copy)]
+pub enum Refusal {
+    // 1: the row has not 2 to 65 cells
+    RowLength,
+    // 2: a question is out
+    QuestionOut,
+    // 3: 64 zeros are held
+    Full,
+    // 4: the zero is neither 0 nor from low to high in size
+    ZeroOutOfLimits,
+    // 5: an operation of the addition leaves its range
+    AddingOutOfRange(OutOfRange),
+    // 6: the order is above the row's highest
+    OrderAboveRow,
+    // 7: the order is above the count of zeros held
+    OrderAboveZeros,
+    // 8: an operation of the closing leaves its range
+    ClosingOutOfRange { operation: u8 },
+    // 17: eight bytes are no number
+    NotAdmitted(Cause),
+}
+
+pub impl From<Cause> for Refusal as RefusalOfCause {
+    ghost converts = { λ c r. r ≡ NotAdmitted c };
+
+    fn from(cause: Cause) -> Refusal {
+        Refusal::NotAdmitted(cause)
+    }
+}
+
+pub impl From<OutOfRange> for Refusal as RefusalOfRange {
+    ghost converts = { λ e r. r ≡ AddingOutOfRange e };
+
+    fn from(at: OutOfRange) -> Refusal {
+        Refusal::AddingOutOfRange(at)
+    }
+}
