@@ -1,5 +1,5 @@
+use Rattle.rounding.proofs.Laws.{laws}
 use Rattle.rounding.proofs.rounding_laws.Needs as need
 
--- src/lib.rt:5:1
 pub returns : need.returns
-returns c = ?
+returns c = laws
