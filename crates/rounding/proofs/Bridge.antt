@@ -1,9 +1,8 @@
 -- The one rounding: p digits in radix 2 of the definitions is the rounding of lib.Ieee's model.
-use mathlib.Core.Path.{_≡_, refl, sym, ap, _∙_, subst}
-use mathlib.Core.Logic.{_⊎_, inl, inr}
-use mathlib.Core.Bool.{Bool, true, false, not}
+use mathlib.Core.Path.{_≡_, refl, ap, _∙_, subst}
+use mathlib.Core.Bool.{not}
 use Prim.Native.Nat.{ℕ, zero, suc, _+_, _-_, _*_, _/_, _%_, _^_, _≤_, _<_, compare, Ordering, Ordering·lt, Ordering·eq, Ordering·gt}
-use native.Mathlib.Nat.{le-trans, mul-pos, mod-lt, div-add-mod', le-div-iff-mul-le, div-lt-iff-lt-mul, mul-assoc, mul-comm}
+use native.Mathlib.Nat.{le-trans, mul-pos, mod-lt, div-add-mod', le-div-iff-mul-le, div-lt-iff-lt-mul, mul-assoc}
 use native.Mathlib.Omega.{arith}
 use lib.Dec.{lit≤, T, isLe, isEq, eqb, leb→le, nleb→lt, eqb→eq, eqb-refl}
 use lib.Arith.{lt-of-le-ne}

@@ -3,11 +3,11 @@
 -- has a smaller exponent, so it lies below B^(p−1) units of the last digit, which are a multiple, and at most n / d. Where
 -- a multiple is as near, n / d lies half-way between two neighbours, and the significand is even: so of two candidates that are
 -- both nearest and both even there is one only.
-use Prim.Native.Nat.{ℕ, zero, suc, _+_, _-_, _*_, _%_, _^_, _≤_, _<_}
+use Prim.Native.Nat.{ℕ, suc, _+_, _-_, _*_, _%_, _^_, _≤_, _<_}
 use native.Mathlib.Omega.{arith}
-use native.Mathlib.Nat.{mul-le-mul, mul-le-mul-left, mul-le-mul-right, pow-succ', pow-le-pow-right, mul-pos, le-refl, le-trans}
+use native.Mathlib.Nat.{mul-le-mul-left, mul-le-mul-right, pow-succ', pow-le-pow-right, mul-pos, le-refl, le-trans}
 use native.Mathlib.Decide.{decLe, ℕ-discrete}
-use mathlib.Core.Path.{_≡_, refl, sym, ap, _∙_, subst}
+use mathlib.Core.Path.{_≡_, sym, ap, _∙_, subst}
 use mathlib.Core.Logic.{_⊎_, inl, inr}
 use Rattle.integers.proofs.Naturals.{cancel, dist, some-power, before}
 use Rattle.rounding.specs.Digits.{Digits}

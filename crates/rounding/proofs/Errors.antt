@@ -3,7 +3,7 @@
 -- of it. The error part of a sum is that of the sizes. A product of two numbers whose exponents add up to q or more is a
 -- whole number of units, with at most 2 p digits before its zeros, and its error part is a number; where they add up to
 -- less, the product is below β^(2p) units, and so is its rounding.
-use Prim.Native.Nat.{ℕ, zero, suc, _+_, _-_, _*_, _^_, _≤_, _<_}
+use Prim.Native.Nat.{ℕ, suc, _+_, _-_, _*_, _^_, _≤_, _<_}
 use native.Mathlib.Omega.{arith}
 use native.Mathlib.Nat.{mul-le-mul-left, mul-le-mul-right, le-of-mul-le-mul-right, le-of-mul-le-mul-left, pow-succ', pow-zero, pow-le-pow-right, mul-pos, le-trans}
 use native.Mathlib.Decide.{decLe}
@@ -17,7 +17,7 @@ use Rattle.integers.proofs.Integers.{abs-mul}
 use Rattle.integers.proofs.Naturals.{some-power, dist, dist-bound}
 use Rattle.rounding.specs.Radix.{rounded, rounding}
 use Rattle.rounding.specs.Digits.{Digits, Number}
-use Rattle.rounding.specs.Laws.{off, Close, Product-part}
+use Rattle.rounding.specs.Laws.{Close, Product-part}
 use Rattle.rounding.proofs.Rounded.{Rounds, rounds, one-rounds, Tight, tight, exact-out, some-B, H-is}
 use Rattle.rounding.proofs.Parts as sizes
 use Rattle.rounding.proofs.Signs.{N, apart, abs-rounding, off-rounding}

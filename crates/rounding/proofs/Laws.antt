@@ -1,8 +1,7 @@
 -- The laws of rounding, put together.
-use Prim.Native.Nat.{ℕ, _≤_}
 use mathlib.Core.Path.{subst}
 use Rattle.rounding.specs.Digits.{Number}
-use Rattle.rounding.specs.Laws.{Laws, Rounding-laws}
+use Rattle.rounding.specs.Laws.{Rounding-laws}
 use Rattle.rounding.proofs.Signs as signs
 use Rattle.rounding.proofs.Errors as errors
 

@@ -2,7 +2,7 @@
 -- says which of the two whole numbers around n / d is nearer, and at a half the even one is taken. Hence it lies at most a half
 -- away and is even at a half. From these two facts alone follow that a larger fraction has no smaller nearest whole number, and
 -- that equal fractions have one.
-use Prim.Native.Nat.{ℕ, zero, suc, _+_, _-_, _*_, _/_, _%_, _≤_, _<_}
+use Prim.Native.Nat.{ℕ, suc, _+_, _*_, _/_, _%_, _≤_, _<_}
 use native.Mathlib.Omega.{arith}
 use native.Mathlib.Nat.{mul-le-mul-right, mul-pos, mod-lt, mod-add-div', le-antisymm, le-of-eq}
 use native.Mathlib.Decide.{decLe}

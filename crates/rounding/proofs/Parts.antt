@@ -3,12 +3,12 @@
 -- is their distance; that this is at most B^(p+f) is left to show. For a sum it holds because the other operand is a number that
 -- lies no further off than the one with the exponent f, and nothing is nearer than the rounded sum. For a product, of at most 2 p
 -- digits, it holds because at most p of them are dropped.
-use Prim.Native.Nat.{ℕ, zero, suc, _+_, _-_, _*_, _^_, _≤_, _<_}
+use Prim.Native.Nat.{ℕ, suc, _+_, _*_, _^_, _≤_, _<_}
 use native.Mathlib.Omega.{arith}
 use native.Mathlib.Nat.{mul-le-mul-left, mul-le-mul-right, pow-le-pow-right, le-refl, le-trans}
 use native.Mathlib.Decide.{decLe, ℕ-discrete}
-use mathlib.Core.Path.{_≡_, refl, sym, ap, _∙_, subst}
-use mathlib.Core.Logic.{_⊎_, inl, inr, ⊎-elim}
+use mathlib.Core.Path.{_≡_, sym, ap, _∙_, subst}
+use mathlib.Core.Logic.{_⊎_, ⊎-elim}
 use lib.Pow.{pow-add}
 use Rattle.integers.proofs.Naturals.{dist, some-power, before}
 use Rattle.rounding.proofs.Nearest.{Nearest}

@@ -1,11 +1,11 @@
 -- Rounding with a sign. The size of what is rounded is the rounding of the size, and a fraction and its negative are rounded
 -- alike, so each law is shown for sizes and then carried over: of two results with the sign of the fraction the distances are
 -- those of the sizes, and a number on the other side of 0 is farther off than 0 is.
-use Prim.Native.Nat.{ℕ, zero, suc, _+_, _-_, _*_, _^_, _≤_, _<_}
+use Prim.Native.Nat.{ℕ, zero, suc, _+_, _*_, _≤_, _<_}
 use native.Mathlib.Omega.{arith}
 use native.Mathlib.Nat.{mul-le-mul-right, mul-pos}
 use mathlib.Core.Path.{_≡_, refl, sym, ap, _∙_, subst}
-use lib.IntN.{ℤ, pos, negsuc, _+ℤ_, _-ℤ_, _*ℤ_, negℤ, natAbs, negℤ-negℤ}
+use lib.IntN.{ℤ, pos, negsuc, _-ℤ_, _*ℤ_, negℤ, natAbs, negℤ-negℤ}
 use lib.Signed.{_≤ℤ_}
 use Rattle.std.proofs.shelf.Signed.{ints}
 use Rattle.integers.proofs.Ring.{ring, at, num, _⊕_, _⊗_, ⊖_}
@@ -14,7 +14,7 @@ use Rattle.integers.proofs.Naturals.{dist}
 use Rattle.rounding.specs.Radix.{rounded, rounding}
 use Rattle.rounding.specs.Digits.{Digits, Number}
 use Rattle.rounding.specs.Laws.{off, Even-significand, Nearest-even}
-use Rattle.rounding.proofs.Rounded.{Rounds, rounds, one-rounds, rounds-mono, twice}
+use Rattle.rounding.proofs.Rounded.{Rounds, rounds, one-rounds, rounds-mono}
 use Rattle.rounding.proofs.Numbers.{digits-rounded, digits-stay, digits-zero}
 use Rattle.rounding.proofs.Closest.{closest, tie-even, only}
 

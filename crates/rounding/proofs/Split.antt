@@ -1,15 +1,15 @@
 -- Split: a number of p digits is the sum of one of p - s digits and one of s - 1.
-use mathlib.Core.Path.{_≡_, refl, sym, ap, _∙_, subst}
+use mathlib.Core.Path.{_≡_, sym, ap, _∙_, subst}
 use mathlib.Core.Logic.{_⊎_, inl, inr}
-use Prim.Native.Nat.{ℕ, zero, suc, _+_, _-_, _*_, _^_, _≤_, _<_}
-use native.Mathlib.Nat.{le-refl, mul-assoc, pow-succ', mul-le-mul-right, lt-of-mul-lt-mul-right, add-suc, add-assoc}
+use Prim.Native.Nat.{ℕ, suc, _+_, _-_, _*_, _^_, _≤_, _<_}
+use native.Mathlib.Nat.{le-refl, mul-assoc, mul-le-mul-right, lt-of-mul-lt-mul-right}
 use native.Mathlib.Omega.{arith}
-use Rattle.std.proofs.shelf.Tests.{cases-eq, cases-lt}
+use Rattle.std.proofs.shelf.Tests.{cases-eq}
 use lib.Pow.{pow-add, pow-pos, pow-mono}
-use lib.IntN.{ℤ, pos, negsuc, _+ℤ_, _-ℤ_, _*ℤ_, negℤ}
-use borrow.Author.Differences.{up, down, same-in, same-out, sum-is, neg-is, product-is}
-use Rattle.rounding.proofs.BinaryNearest.{Near, Under, Within, Over, Div, Rep, Nearest, times, times-is, div-neg, div-down, div-gap, div-times, split-pow, pow-up, pow-double, pow-next, rep-in, rep-pow, pow-div, exact, keeps-low, keeps-pow, keeps-div, coarse, half, cases-size}
-use Rattle.rounding.proofs.TwoSum.{Sum, sub-is, div-sum, div-rest, Below}
+use lib.IntN.{ℤ, negℤ}
+use borrow.Author.Differences.{up, down, same-in, same-out, neg-is}
+use Rattle.rounding.proofs.BinaryNearest.{Near, Under, Within, Over, Div, Nearest, times, times-is, div-neg, div-down, div-gap, div-times, split-pow, pow-next, rep-in, rep-pow, pow-div, exact, coarse, half}
+use Rattle.rounding.proofs.TwoSum.{Sum, div-sum, div-rest}
 
 pub pow-le : (m n : ℕ) → m ≤ n → 2 ^ m ≤ 2 ^ n
 pow-le m n h = pow-mono h

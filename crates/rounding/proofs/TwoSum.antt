@@ -1,14 +1,13 @@
 -- TwoSum: the error of a rounded sum is a number of p digits, and the six operations find it.
-use mathlib.Core.Path.{_≡_, refl, sym, ap, _∙_, subst}
+use mathlib.Core.Path.{_≡_, refl, sym, subst}
 use mathlib.Core.Logic.{_⊎_, inl, inr}
-use Prim.Native.Nat.{ℕ, zero, suc, _+_, _-_, _*_, _^_, _≤_, _<_}
-use native.Mathlib.Nat.{le-refl, pow-succ'}
+use Prim.Native.Nat.{ℕ, zero, suc, _+_, _*_, _^_, _≤_, _<_}
 use native.Mathlib.Omega.{arith}
-use Rattle.std.proofs.shelf.Tests.{cases-eq, cases-lt}
+use Rattle.std.proofs.shelf.Tests.{cases-lt}
 use lib.Pow.{pow-add, pow-pos, pow-mono}
 use lib.IntN.{ℤ, pos, negsuc, _+ℤ_, _-ℤ_, negℤ}
 use borrow.Author.Differences.{up, down, same-in, same-out, sum-is, neg-is}
-use Rattle.rounding.proofs.BinaryNearest.{Near, Under, Within, Over, Div, Rep, Nearest, div-neg, div-down, div-gap, pow-up, pow-double, pow-next, rep-in, exact, keeps-low, keeps-pow, keeps-div, coarse, half, cases-size}
+use Rattle.rounding.proofs.BinaryNearest.{Near, Under, Within, Over, Div, Rep, Nearest, div-neg, div-down, div-gap, pow-next, rep-in, exact, keeps-low, keeps-div, coarse, half, cases-size}
 
 -- s is the sum of a and b; so b is s less a
 abbrev pub Sum : ℤ → ℤ → ℤ → Type 0

@@ -1,10 +1,10 @@
 -- The laws of rounding to p digits in radix β. A value is counted in units of 1/Q: the whole number a stands for a/Q, and the
 -- rounding of the fraction z/d is such a whole number. Denominators are cleared throughout.
-use Prim.Native.Nat.{ℕ, _+_, _-_, _*_, _%_, _^_, _≤_, _<_}
+use Prim.Native.Nat.{ℕ, _-_, _*_, _%_, _^_, _≤_, _<_}
 use mathlib.Core.Path.{_≡_}
 use lib.IntN.{ℤ, pos, natAbs, negℤ, _+ℤ_, _-ℤ_, _*ℤ_}
 use lib.Signed.{_≤ℤ_}
-use Rattle.rounding.specs.Digits.{Digits, Number}
+use Rattle.rounding.specs.Digits.{Number}
 use Rattle.rounding.specs.Radix.{rounding}
 
 -- how far a/Q lies from z/d, times Q · d
