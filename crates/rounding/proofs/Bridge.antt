@@ -1,4 +1,6 @@
--- The one rounding: p digits in radix 2 of the definitions is the rounding of lib.Ieee's model.
+-- The rounding of specs/Radix in radix 2 is the rounding of the library's model of floats. That model counts the binary
+-- digits of the whole part and drops those beyond p, so its exponent is the least that leaves p digits, and what it keeps is
+-- the nearest whole number, even at a tie. Both are therefore the one rounding of the fraction.
 use mathlib.Core.Path.{_≡_, refl, ap, _∙_, subst}
 use mathlib.Core.Bool.{not}
 use Prim.Native.Nat.{ℕ, zero, suc, _+_, _-_, _*_, _/_, _%_, _^_, _≤_, _<_, compare, Ordering, Ordering·lt, Ordering·eq, Ordering·gt}

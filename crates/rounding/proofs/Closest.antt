@@ -1,8 +1,8 @@
--- No number of p digits is nearer to n / d than what it is rounded to, and a tie goes to the even significand. The multiples of
--- the last digit's unit are no nearer, since the significand is the nearest whole number. A number that is no such multiple
--- has a smaller exponent, so it lies below B^(p−1) units of the last digit, which are a multiple, and at most n / d. Where
--- a multiple is as near, n / d lies half-way between two neighbours, and the significand is even: so of two candidates that are
--- both nearest and both even there is one only.
+-- No number of p digits is nearer to n / d than what it is rounded to, and a tie goes to the even significand. The multiples
+-- of the last digit's unit are no nearer, since the significand is the nearest whole number. A number that is no such
+-- multiple has a smaller exponent, so it lies below B^(p−1) units of the last digit, which are a multiple, and at most n /
+-- d. Where a multiple is as near, n / d lies half-way between two neighbours, and the significand is even: so of two
+-- candidates that are both nearest and both even there is one only.
 use Prim.Native.Nat.{ℕ, suc, _+_, _-_, _*_, _%_, _^_, _≤_, _<_}
 use native.Mathlib.Omega.{arith}
 use native.Mathlib.Nat.{mul-le-mul-left, mul-le-mul-right, pow-succ', pow-le-pow-right, mul-pos, le-refl, le-trans}

@@ -1,4 +1,6 @@
--- Comparisons of floats, by their values.
+-- Comparisons of floats are comparisons of the numbers that they stand for. The model compares two fractions over a common
+-- denominator; a unit is a common denominator too, and the order does not depend on which is taken. A test that a float's
+-- size lies between two floats is then a test of its magnitude.
 use mathlib.Core.Path.{_≡_, refl, sym, ap, _∙_, subst}
 use mathlib.Core.Bool.{Bool, true, false, not, _||_}
 use Prim.Native.Nat.{ℕ, zero, suc, _+_, _*_, _^_, _≤_, _<_}

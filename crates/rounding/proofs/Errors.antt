@@ -1,7 +1,7 @@
--- The errors of rounding, with signs. A whole number of units that is rounded at exponent 0 is exact; any other value that is
--- rounded to more than β^(p−1) units has a significand of at least β^(p−1), so that half a unit of its last digit is at most 1/U
--- of it. The error part of a sum is that of the sizes. A product of two numbers whose exponents add up to q or more is a
--- whole number of units, with at most 2 p digits before its zeros, and its error part is a number; where they add up to
+-- The errors of rounding, with signs. A whole number of units that is rounded at exponent 0 is exact; any other value that
+-- is rounded to more than β^(p−1) units has a significand of at least β^(p−1), so that half a unit of its last digit is at
+-- most 1/U of it. The error part of a sum is that of the sizes. A product of two numbers whose exponents add up to q or more
+-- is a whole number of units, with at most 2 p digits before its zeros, and its error part is a number; where they add up to
 -- less, the product is below β^(2p) units, and so is its rounding.
 use Prim.Native.Nat.{ℕ, suc, _+_, _-_, _*_, _^_, _≤_, _<_}
 use native.Mathlib.Omega.{arith}

@@ -1,4 +1,5 @@
--- A whole number of units is a number of p digits exactly where rounding leaves it unchanged, and what is rounded is such a number.
+-- A whole number of units has p binary digits exactly where rounding leaves it unchanged, and what is rounded has p digits,
+-- so rounding twice is rounding once: what is rounded is nearest, and a number of p digits is nearest to itself alone.
 use mathlib.Core.Path.{_≡_, sym, ap, _∙_, subst}
 use Prim.Native.Nat.{ℕ, suc, _-_, _*_, _/_, _%_, _^_, _≤_, _<_, compare}
 use native.Mathlib.Nat.{le-trans, one-mul, div-one, div-div-eq-div-mul, mul-le-mul-right}

@@ -1,4 +1,7 @@
--- TwoProduct over floats: the two results add up to the exact product.
+-- TwoProduct over floats: the rounded product and the tail that the multiplications and subtractions give add up to the
+-- exact product. Each float operation gives a nearest number (Floats), so the argument over whole numbers of units (Scaled)
+-- applies once it is shown that nothing overflows, by bounds on the sizes, and that the product is large enough for all its
+-- partial products to be whole numbers of units.
 use mathlib.Core.Path.{_≡_, refl, sym, ap, _∙_, subst}
 use mathlib.Core.Logic.{inl, inr}
 use Prim.Native.Nat.{ℕ, zero, suc, _+_, _-_, _*_, _/_, _%_, _^_, _≤_, _<_, compare}

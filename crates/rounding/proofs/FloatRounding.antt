@@ -1,4 +1,6 @@
--- Each operation of lib.Ieee gives the rounding of the exact result, or overflows where that is too large.
+-- Each float operation gives the rounding of the exact result, or an infinity where that rounding is too large for the
+-- format: sums, differences and products, whose exact results are fractions with a power of two below, and quotients. Then
+-- the relative error of a rounding: half a unit of the last digit against a significand of at least 2^(p−1).
 use mathlib.Core.Path.{_≡_, refl, sym, ap, _∙_, subst}
 use mathlib.Core.Logic.{_⊎_, inl, inr}
 use mathlib.Core.Bool.{Bool, true, false, not, cond}

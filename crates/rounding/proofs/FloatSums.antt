@@ -1,4 +1,6 @@
--- TwoSum over floats: the two results add up to the exact sum.
+-- TwoSum over floats: the rounded sum and the rest that five more operations give add up to the exact sum. Each float
+-- operation gives a nearest number (Floats), and with operands of at most 2^n units no step overflows, so the argument over
+-- whole numbers (TwoSum) applies.
 use mathlib.Core.Path.{_≡_}
 use mathlib.Core.Logic.{inr}
 use Prim.Native.Nat.{ℕ, suc, _+_, _^_, _≤_, _<_}

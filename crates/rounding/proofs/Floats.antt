@@ -1,4 +1,7 @@
--- The operations of lib.Ieee, by whole numbers of units: each gives a nearest number.
+-- Float operations, by whole numbers of units. A finite float of a format is a whole number of the format's units with at
+-- most p digits. The exact result of an operation is a fraction; where it is a whole number of units, the float that is
+-- returned stands for a nearest number, provided that it is finite or that the exact result is in range. Sums are brought to
+-- a common denominator first; a product is taken where it is a whole number of units.
 use mathlib.Core.Path.{_≡_, refl, sym, ap, _∙_, subst}
 use mathlib.Core.Logic.{_⊎_, inl, inr}
 use mathlib.Core.Bool.{Bool, true, false, not, _&&_, cond}

@@ -1,4 +1,5 @@
--- The grain m / 2 ^ p, one less a grain, and a quotient by it.
+-- The grain m / 2^p, one less a grain, and a quotient by that. The product of m and 2^−p and the difference from 1 have at
+-- most p digits, so both float operations are exact; the one rounding is that of the quotient, a · 2^p / (2^p − m).
 use mathlib.Core.Path.{_≡_, refl, sym, ap, _∙_, subst}
 use mathlib.Core.Logic.{inr}
 use mathlib.Core.Bool.{true, false}

@@ -1,4 +1,6 @@
--- What lib.Ieee keeps of a whole number is nearest to it.
+-- What the library's model of floats keeps of a whole number is nearest to it. With k digits dropped, N = w · 2^k + e, and w
+-- or w + 1 is kept as e is below or above half of 2^k. No number of p digits lies between w · 2^k and (w + 1) · 2^k, since w
+-- has p digits already; so none is nearer than the nearer of the two, in finer units either.
 use mathlib.Core.Path.{_≡_, refl, sym, ap, _∙_, subst}
 use mathlib.Core.Logic.{_⊎_, inl, inr}
 use mathlib.Core.Bool.{not}

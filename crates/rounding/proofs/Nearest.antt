@@ -1,12 +1,12 @@
 -- The whole number nearest to a fraction n / d. Division gives a quotient and a remainder; the remainder, against half of d,
--- says which of the two whole numbers around n / d is nearer, and at a half the even one is taken. Hence it lies at most a half
--- away and is even at a half. From these two facts alone follow that a larger fraction has no smaller nearest whole number, and
--- that equal fractions have one.
+-- says which of the two whole numbers around n / d is nearer, and at a half the even one is taken. Hence it lies at most a
+-- half away and is even at a half. From these two facts alone it follows that a larger fraction has no smaller
+-- nearest whole number.
 use Prim.Native.Nat.{ℕ, suc, _+_, _*_, _/_, _%_, _≤_, _<_}
 use native.Mathlib.Omega.{arith}
-use native.Mathlib.Nat.{mul-le-mul-right, mul-pos, mod-lt, mod-add-div', le-antisymm, le-of-eq}
+use native.Mathlib.Nat.{mul-le-mul-right, mul-pos, mod-lt, mod-add-div'}
 use native.Mathlib.Decide.{decLe}
-use mathlib.Core.Path.{_≡_, refl, sym}
+use mathlib.Core.Path.{_≡_, refl}
 use mathlib.Core.Bool.{Bool, true, false, cond, _&&_, _||_}
 use lib.Dec.{ltb, eqb}
 use borrow.Author.Tests.{ltb-true, ltb-false, eqb-true, eqb-apart}
@@ -57,7 +57,3 @@ nearest-mono n d n′ d′ m m′ h h′ e a b = go (decLe m′ m)
       where
         both : (2 * n * d′ ≡ (2 * (m * d) + d) * d′) × (2 * (m′ * d′) * d ≡ (2 * n′ + d′) * d) × (m′ * (d * d′) ≡ suc m * (d * d′)) → ⊥
         both t = omega (arith, a .even-down (cancel (2 * n) (2 * (m * d) + d) d′ h′ (t .0)), b .even-up (cancel (2 * (m′ * d′)) (2 * n′ + d′) d h (t .1)), cancel m′ (suc m) (d * d′) (mul-pos h h′) (t .2))
-
--- equal fractions have one nearest whole number
-pub one-nearest : (n d n′ d′ m m′ : ℕ) → 0 < d → 0 < d′ → n * d′ ≡ n′ * d → Nearest n d m → Nearest n′ d′ m′ → m ≡ m′
-one-nearest n d n′ d′ m m′ h h′ e a b = le-antisymm (nearest-mono n′ d′ n d m′ m h′ h (le-of-eq e) b a) (nearest-mono n d n′ d′ m m′ h h′ (le-of-eq (sym e)) a b)

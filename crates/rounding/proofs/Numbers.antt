@@ -1,5 +1,5 @@
--- The numbers of p digits in radix B: multiples of B^e of at most B^p such. A multiple of B^e that is B^p of them exactly is a
--- number too, with one zero more. What is rounded is a number, since its significand is at most B^p, and a number is left
+-- The numbers of p digits in radix B: multiples of B^e of at most B^p such. A multiple of B^e that is B^p of them exactly is
+-- a number too, with one zero more. What is rounded is a number, since its significand is at most B^p, and a number is left
 -- unchanged.
 use Prim.Native.Nat.{ℕ, suc, _+_, _-_, _*_, _^_, _≤_, _<_}
 use native.Mathlib.Omega.{arith}

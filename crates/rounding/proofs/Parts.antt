@@ -1,8 +1,8 @@
--- The errors of rounded sums and products of numbers of p digits are numbers of p digits. Say that the exact result is a multiple
--- of B^f, where f is an exponent that an operand has. Either the rounded result is exact, or it is a multiple of B^f too, and so
--- is their distance; that this is at most B^(p+f) is left to show. For a sum it holds because the other operand is a number that
--- lies no further off than the one with the exponent f, and nothing is nearer than the rounded sum. For a product, of at most 2 p
--- digits, it holds because at most p of them are dropped.
+-- The errors of rounded sums and products of numbers of p digits are numbers of p digits. Say that the exact result is a
+-- multiple of B^f, where f is an exponent that an operand has. Either the rounded result is exact, or it is a multiple of
+-- B^f too, and so is their distance; that this is at most B^(p+f) is left to show. For a sum it holds because the other
+-- operand is a number that lies no further off than the one with the exponent f, and nothing is nearer than the rounded sum.
+-- For a product, of at most 2 p digits, it holds because at most p of them are dropped.
 use Prim.Native.Nat.{ℕ, suc, _+_, _*_, _^_, _≤_, _<_}
 use native.Mathlib.Omega.{arith}
 use native.Mathlib.Nat.{mul-le-mul-left, mul-le-mul-right, pow-le-pow-right, le-refl, le-trans}
@@ -26,8 +26,8 @@ module _ (B p : ℕ) (base : 2 ≤ B) (digits : 1 ≤ p) where
   pub best : (n r y : ℕ) → Rounds B p n 1 r → Digits B p y → dist n r ≤ dist n y
   best n r y a b = omega (arith, closest B p base digits n 1 r y (omega arith) a b)
 
-  part : (n r w y f : ℕ) → Rounds B p n 1 r → Multiple (B ^ f) n → w ≤ B ^ p * B ^ f → dist n r ≤ w → Digits B p (dist n r)
-  part n r w y f a h l near = go (decLe (a .e) f)
+  part : (n r w f : ℕ) → Rounds B p n 1 r → Multiple (B ^ f) n → w ≤ B ^ p * B ^ f → dist n r ≤ w → Digits B p (dist n r)
+  part n r w f a h l near = go (decLe (a .e) f)
     where
       go : Dec (a .e ≤ f) → Digits B p (dist n r)
       go (yes k) = subst (Digits B p) (sym gone) (digits-zero B p base digits)
@@ -59,8 +59,8 @@ module _ (B p : ℕ) (base : 2 ≤ B) (digits : 1 ≤ p) where
       by-v : dist n u ≤ v
       by-v = ⊎-elim (λ q. omega arith) (λ q. omega arith) h
       go : Dec (b .e ≤ c .e) → Digits B p (dist n r)
-      go (yes l) = part n r u v (b .e) a (all (b .e) (record { times = b .m; is = b .is }) (multiple-power B p base digits (b .e) (c .e) v l (record { times = c .m; is = c .is }))) (under-own u b) (reach u v by-u c)
-      go (no l) = part n r v u (c .e) a (all (c .e) (multiple-power B p base digits (c .e) (b .e) u (omega arith) (record { times = b .m; is = b .is })) (record { times = c .m; is = c .is })) (under-own v c) (reach v u by-v b)
+      go (yes l) = part n r u (b .e) a (all (b .e) (record { times = b .m; is = b .is }) (multiple-power B p base digits (b .e) (c .e) v l (record { times = c .m; is = c .is }))) (under-own u b) (reach u v by-u c)
+      go (no l) = part n r v (c .e) a (all (c .e) (multiple-power B p base digits (c .e) (b .e) u (omega arith) (record { times = b .m; is = b .is })) (record { times = c .m; is = c .is })) (under-own v c) (reach v u by-v b)
 
   pub half-off : (z r : ℕ) → (a : Rounds B p z 1 r) → dist z r ≤ B ^ a .e
   half-off z r a = rw (a .is) (half z (B ^ a .e) (a .m) (b .not-above) (b .not-below))
@@ -72,7 +72,7 @@ module _ (B p : ℕ) (base : 2 ≤ B) (digits : 1 ≤ p) where
 
   -- the error of a product z = i B^g with i below B^(2p)
   pub product-part : (z r i g : ℕ) → Rounds B p z 1 r → z ≡ i * B ^ g → i < B ^ p * B ^ p → Digits B p (dist z r)
-  product-part z r i g a q l = part z r (B ^ p * B ^ g) 0 g a (record { times = i; is = q }) (le-refl (B ^ p * B ^ g)) (le-trans (half-off z r a) (subst (λ (x : ℕ). B ^ a .e ≤ x) (pow-add B p g) (pow-le-pow-right (some-B B p base digits) low)))
+  product-part z r i g a q l = part z r (B ^ p * B ^ g) g a (record { times = i; is = q }) (le-refl (B ^ p * B ^ g)) (le-trans (half-off z r a) (subst (λ (x : ℕ). B ^ a .e ≤ x) (pow-add B p g) (pow-le-pow-right (some-B B p base digits) low)))
     where
       low-by : (k : ℕ) → a .e ≡ suc k → Dec (p + g ≤ k) → a .e ≤ p + g
       low-by k w (yes m) = absurd (clash (B ^ p) (B ^ g) (B ^ k) i z q l (rw (one-times (B ^ p)) at (a .least k w)) (subst (λ (x : ℕ). x ≤ B ^ k) (pow-add B p g) (pow-le-pow-right (some-B B p base digits) m)) (some-power B g (omega arith)))

@@ -1,7 +1,7 @@
 -- Rounding the size n / d to p digits in radix B. The exponent is the least that leaves p digits, and the significand is the
--- nearest whole number (`Rounds`); everything else follows from these two facts. The significand lies between B^(p−1) and B^p,
--- unless the exponent is 0. So a larger fraction rounds to no less, equal fractions round alike, the error, half a unit of
--- the last digit, is small against the value, and what has p digits is left unchanged.
+-- nearest whole number (`Rounds`); everything else follows from these two facts. The significand lies between B^(p−1) and
+-- B^p, unless the exponent is 0. So a larger fraction rounds to no less, equal fractions round alike, the error, half a unit
+-- of the last digit, is small against the value, and what has p digits is left unchanged.
 use Prim.Native.Nat.{ℕ, zero, suc, _+_, _-_, _*_, _^_, _≤_, _<_}
 use native.Mathlib.Omega.{arith}
 use native.Mathlib.Nat.{mul-le-mul, mul-le-mul-left, mul-le-mul-right, le-of-mul-le-mul-right, pow-succ', pow-zero, pow-le-pow-right, mul-pos, le-trans, le-antisymm, le-of-eq}

@@ -1,4 +1,7 @@
--- TwoProduct in any units: a and b are whole numbers of units, and their product is v units of another size, v * L.
+-- TwoProduct in the units of a format. The product of two whole numbers of units is v · 2^k of them, and v is what is
+-- rounded. In units finer by p digits every number but 0 has all its p digits, so Split and TwoProduct apply there as they
+-- stand; that a nearest number stays nearest in finer units brings their steps over, and the factor cancels in the end.
+-- Where the product is large enough, the partial products are whole numbers of units too.
 use mathlib.Core.Path.{_≡_, sym, ap, _∙_, subst}
 use mathlib.Core.Logic.{_⊎_, inl, inr}
 use Prim.Native.Nat.{ℕ, suc, _+_, _*_, _^_, _≤_, _<_}

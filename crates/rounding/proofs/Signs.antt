@@ -1,6 +1,6 @@
 -- Rounding with a sign. The size of what is rounded is the rounding of the size, and a fraction and its negative are rounded
--- alike, so each law is shown for sizes and then carried over: of two results with the sign of the fraction the distances are
--- those of the sizes, and a number on the other side of 0 is farther off than 0 is.
+-- alike, so each law is shown for sizes and then carried over: of two results with the sign of the fraction the distances
+-- are those of the sizes, and a number on the other side of 0 is farther off than 0 is.
 use Prim.Native.Nat.{ℕ, zero, suc, _+_, _*_, _≤_, _<_}
 use native.Mathlib.Omega.{arith}
 use native.Mathlib.Nat.{mul-le-mul-right, mul-pos}

@@ -1,4 +1,7 @@
--- TwoProduct: the partial products and each step of the last line are exact, so the error is found.
+-- TwoProduct, after Dekker: with a and b split, x the rounded product and the four partial products exact, the error a · b −
+-- x is a2 · b2 − (((x − a1 · b1) − a2 · b1) − a1 · b2), and each of these four subtractions is exact. Each gives a multiple
+-- of the last digit of its operands, and each difference is small, for what is left is the error of x, half a unit of its
+-- last digit, and the partial products yet to be subtracted.
 use mathlib.Core.Path.{_≡_, refl, sym, ap, _∙_, subst}
 use mathlib.Core.Logic.{inl, inr}
 use Prim.Native.Nat.{ℕ, suc, _+_, _*_, _^_, _≤_, _<_}

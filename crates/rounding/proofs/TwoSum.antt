@@ -1,4 +1,9 @@
--- TwoSum: the error of a rounded sum is a number of p digits, and the six operations find it.
+-- TwoSum, of Knuth and Møller: with x the rounded sum of a and b and z the rounding of x − a, the rounding of (a − (x − z))
+-- + (b − z) is the exact error a + b − x. The error has p digits: it is a multiple of the finer last digit of a and b, and
+-- at most as large as the operand that has it, because the other operand is a number that near to the sum. Where b is no
+-- larger than a, x − a is exact; where it is larger and the sum is smaller than a, the sum is exact; and else x is no
+-- smaller than a, so that z − x is exact, and so are a − (x − z) and b − z, one as an error of a sum and the other because z
+-- is near b. So the last sum is the error itself, and exact.
 use mathlib.Core.Path.{_≡_, refl, sym, subst}
 use mathlib.Core.Logic.{_⊎_, inl, inr}
 use Prim.Native.Nat.{ℕ, zero, suc, _+_, _*_, _^_, _≤_, _<_}
