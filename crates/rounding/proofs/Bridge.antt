@@ -1,9 +1,10 @@
--- The one rounding: p digits in radix 2 of the definitions is the rounding of lib.Ieee's model.
-use mathlib.Core.Path.{_≡_, refl, sym, ap, _∙_, subst}
-use mathlib.Core.Logic.{_⊎_, inl, inr}
-use mathlib.Core.Bool.{Bool, true, false, not}
+-- The rounding of specs/Radix in radix 2 is the rounding of the library's model of floats. That model counts the binary
+-- digits of the whole part and drops those beyond p, so its exponent is the least that leaves p digits, and what it keeps is
+-- the nearest whole number, even at a tie. Both are therefore the one rounding of the fraction.
+use mathlib.Core.Path.{_≡_, refl, ap, _∙_, subst}
+use mathlib.Core.Bool.{not}
 use Prim.Native.Nat.{ℕ, zero, suc, _+_, _-_, _*_, _/_, _%_, _^_, _≤_, _<_, compare, Ordering, Ordering·lt, Ordering·eq, Ordering·gt}
-use native.Mathlib.Nat.{le-trans, mul-pos, mod-lt, div-add-mod', le-div-iff-mul-le, div-lt-iff-lt-mul, mul-assoc, mul-comm}
+use native.Mathlib.Nat.{le-trans, mul-pos, mod-lt, div-add-mod', le-div-iff-mul-le, div-lt-iff-lt-mul, mul-assoc}
 use native.Mathlib.Omega.{arith}
 use lib.Dec.{lit≤, T, isLe, isEq, eqb, leb→le, nleb→lt, eqb→eq, eqb-refl}
 use lib.Arith.{lt-of-le-ne}

@@ -1,19 +1,17 @@
--- A whole number of units is a number of p digits exactly where rounding leaves it unchanged, and what is rounded is such a number.
-use mathlib.Core.Path.{_≡_, refl, sym, ap, _∙_, subst}
-use mathlib.Core.Bool.{Bool, true, false}
-use Prim.Native.Nat.{ℕ, zero, suc, _+_, _-_, _*_, _/_, _%_, _^_, _≤_, _<_, compare}
+-- A whole number of units has p binary digits exactly where rounding leaves it unchanged, and what is rounded has p digits,
+-- so rounding twice is rounding once: what is rounded is nearest, and a number of p digits is nearest to itself alone.
+use mathlib.Core.Path.{_≡_, sym, ap, _∙_, subst}
+use Prim.Native.Nat.{ℕ, suc, _-_, _*_, _/_, _%_, _^_, _≤_, _<_, compare}
 use native.Mathlib.Nat.{le-trans, one-mul, div-one, div-div-eq-div-mul, mul-le-mul-right}
 use native.Mathlib.Omega.{arith}
-use lib.Dec.{lit<}
 use lib.Pow.{pow-add}
 use lib.IntN.{ℤ, pos, negsuc, negℤ}
-use borrow.Author.Differences.{neg-is}
 use lib.Ieee.{size}
 use lib.Ieee.Fits.{kept-lt, nearest-le}
 use lib.Ieee.Nearest.{closest}
 use lib.Ieee.Order.{kept, drop}
 use Rattle.rounding.proofs.Model.{rounded, rounding}
-use Rattle.rounding.proofs.BinaryNearest.{Nearest, Rep, Within, rep-in, exact}
+use Rattle.rounding.proofs.BinaryNearest.{Nearest, Rep, rep-in, exact}
 use Rattle.rounding.proofs.TwoSum.{rep-neg}
 use Rattle.rounding.proofs.ModelNearest.{round-nearest, nearest-neg}
 

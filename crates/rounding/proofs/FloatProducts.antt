@@ -1,31 +1,33 @@
--- TwoProduct over floats: the two results add up to the exact product.
+-- TwoProduct over floats: the rounded product and the tail that the multiplications and subtractions give add up to the
+-- exact product. Each float operation gives a nearest number (Floats), so the argument over whole numbers of units (Scaled)
+-- applies once it is shown that nothing overflows, by bounds on the sizes, and that the product is large enough for all its
+-- partial products to be whole numbers of units.
 use mathlib.Core.Path.{_≡_, refl, sym, ap, _∙_, subst}
-use mathlib.Core.Logic.{_⊎_, inl, inr}
-use mathlib.Core.Bool.{Bool, true, false}
+use mathlib.Core.Logic.{inl, inr}
 use Prim.Native.Nat.{ℕ, zero, suc, _+_, _-_, _*_, _/_, _%_, _^_, _≤_, _<_, compare}
-use native.Mathlib.Nat.{zero-mul, mul-pos, le-mul-of-pos-right, pow-succ', mul-comm, mul-one, mul-le-mul-right, le-trans, le-of-eq, le-refl, lt-of-le-of-lt, div-div-eq-div-mul, le-div-iff-mul-le, le-of-mul-le-mul-right}
+use native.Mathlib.Nat.{zero-mul, mul-pos, le-mul-of-pos-right, pow-succ', mul-le-mul-right, le-trans, le-of-eq, div-div-eq-div-mul, le-div-iff-mul-le, le-of-mul-le-mul-right}
 use native.Mathlib.Omega.{arith}
 use Rattle.std.proofs.shelf.Tests.{cases-lt}
 use lib.Dec.{T, lit<, lit≤}
 use lib.Pow.{pow-pos, pow-add, pow-mono}
-use lib.IntN.{ℤ, pos, negsuc, _+ℤ_, _-ℤ_, _*ℤ_, negℤ, *ℤ-comm, negℤ-negℤ}
+use lib.IntN.{ℤ, pos, _+ℤ_, _-ℤ_, _*ℤ_, negℤ}
 use borrow.Author.Differences as D
 use borrow.Author.Differences.{same-in, same-out, sum-is, neg-is, product-is}
-use lib.Ieee.{Float, nan, inf, fin, Format, binary32, binary64, prec, emax, low, up, down, size, add, sub, mul, round, unlike, fits, ofBits}
-use lib.Ieee.Digits.{size-le as digits-le, size-lt}
-use lib.Ieee.Fits.{add-fits, sub-fits, mul-fits, kept-lt, nearest-le, down-pos}
+use lib.Ieee.{Float, nan, inf, fin, Format, binary32, binary64, prec, emax, low, up, down, size, sub, mul, round, unlike, fits, ofBits}
+use lib.Ieee.Digits.{size-le as digits-le}
+use lib.Ieee.Fits.{mul-fits, kept-lt, nearest-le, down-pos}
 use lib.Ieee.Order.{kept, drop}
 use lib.Ieee.Scale.{finite, grid}
 use Rattle.rounding.specs.Value.{value, magnitude, signed}
 use Rattle.rounding.specs.ErrorFree.{splitter, place, hi, lo, tail}
-use Rattle.rounding.proofs.BinaryNearest.{Near, half, Nearest, Rep, Within, Over, Div, times, times-is, keeps-within, keeps-pow, cases-size}
-use Rattle.rounding.proofs.TwoSum.{Sum, sub-is, one-side, over-size, size-over}
-use Rattle.rounding.proofs.Split.{pow-le, Parts, Factor}
+use Rattle.rounding.proofs.BinaryNearest.{Near, half, Nearest, Within, Over, times, times-is, keeps-within, keeps-pow, cases-size}
+use Rattle.rounding.proofs.TwoSum.{Sum, sub-is, over-size, size-over}
+use Rattle.rounding.proofs.Split.{pow-le, Parts}
 use Rattle.rounding.proofs.TwoProduct.{Sized, Places, size-le, size-mul}
 use Rattle.rounding.proofs.ModelNearest.{nearest-neg}
-use Rattle.rounding.proofs.Floats.{digits, In, Result, Held, value-rep, value-is, value-size, within-value, prec-is, mul-nearest, round-under, round-val, size-signed, own}
-use Rattle.rounding.proofs.FloatSums.{Op, within-up, add-op, sub-op}
-use Rattle.rounding.proofs.Scaled.{times-back, times-again, sized, parts, exponents-low, exponents-high, Whole, whole-div, size-times, Ready, wholes, quotient, two-product-units}
+use Rattle.rounding.proofs.Floats.{digits, Held, value-rep, value-is, value-size, prec-is, mul-nearest, round-under, round-val, size-signed, own}
+use Rattle.rounding.proofs.FloatSums.{Op, within-up, sub-op}
+use Rattle.rounding.proofs.Scaled.{times-back, sized, parts, exponents-low, exponents-high, Whole, whole-div, size-times, Ready, wholes, quotient, two-product-units}
 
 -- ---- the split
 abbrev q : Format → ℕ

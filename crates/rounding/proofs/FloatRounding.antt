@@ -1,16 +1,18 @@
--- Each operation of lib.Ieee gives the rounding of the exact result, or overflows where that is too large.
+-- Each float operation gives the rounding of the exact result, or an infinity where that rounding is too large for the
+-- format: sums, differences and products, whose exact results are fractions with a power of two below, and quotients. Then
+-- the relative error of a rounding: half a unit of the last digit against a significand of at least 2^(p−1).
 use mathlib.Core.Path.{_≡_, refl, sym, ap, _∙_, subst}
 use mathlib.Core.Logic.{_⊎_, inl, inr}
 use mathlib.Core.Bool.{Bool, true, false, not, cond}
-use Prim.Native.Nat.{ℕ, zero, suc, _+_, _-_, _*_, _/_, _%_, _^_, _≤_, _<_, compare}
-use native.Mathlib.Nat.{le-refl, mul-assoc, mul-comm, mul-left-comm, mul-right-comm, mul-one, mul-pos, zero-mul, zero-div, zero-mod, eq-of-mul-eq-mul-right, mul-le-mul, div-add-mod', mod-lt, div-div-eq-div-mul, div-one, le-div-iff-mul-le, pow-succ'}
+use Prim.Native.Nat.{ℕ, zero, suc, _+_, _-_, _*_, _/_, _%_, _^_, _≤_, _<_}
+use native.Mathlib.Nat.{mul-assoc, mul-comm, mul-one, mul-pos, zero-mul, mul-le-mul, div-add-mod', mod-lt, div-div-eq-div-mul, div-one, le-div-iff-mul-le, pow-succ'}
 use native.Mathlib.Omega.{arith}
-use lib.Dec.{T, lit<, eqb, eqb→eq, ltb, ltb→lt, nltb→le}
+use lib.Dec.{T, lit<, eqb, eqb→eq, ltb, nltb→le}
 use lib.Pow.{pow-pos, pow-add}
-use lib.IntN.{ℤ, pos, negsuc, _+ℤ_, _-ℤ_, _*ℤ_, negℤ}
+use lib.IntN.{ℤ, pos, _+ℤ_, _-ℤ_, _*ℤ_, negℤ}
 use borrow.Author.Differences as D
-use borrow.Author.Differences.{same-in, same-out, neg-is}
-use lib.Ieee.{Float, nan, inf, fin, Format, binary32, binary64, prec, emax, low, up, down, size, odd, units, round, add, sub, mul, div, unlike, fits}
+use borrow.Author.Differences.{neg-is}
+use lib.Ieee.{Float, nan, inf, fin, Format, prec, low, up, down, size, odd, units, round, add, sub, mul, div, unlike}
 use lib.Ieee.Fits.{round-is, down-pos}
 use lib.Ieee.Nearest.{closest, closest-same, div-same}
 use lib.Ieee.Order.{kept, drop}

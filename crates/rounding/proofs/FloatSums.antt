@@ -1,22 +1,22 @@
--- TwoSum over floats: the two results add up to the exact sum.
-use mathlib.Core.Path.{_≡_, refl, sym, ap, _∙_, subst}
-use mathlib.Core.Logic.{_⊎_, inl, inr}
-use Prim.Native.Nat.{ℕ, zero, suc, _+_, _-_, _*_, _^_, _≤_, _<_}
-use native.Mathlib.Nat.{pow-succ'}
+-- TwoSum over floats: the rounded sum and the rest that five more operations give add up to the exact sum. Each float
+-- operation gives a nearest number (Floats), and with operands of at most 2^n units no step overflows, so the argument over
+-- whole numbers (TwoSum) applies.
+use mathlib.Core.Path.{_≡_}
+use mathlib.Core.Logic.{inr}
+use Prim.Native.Nat.{ℕ, suc, _+_, _^_, _≤_, _<_}
 use native.Mathlib.Omega.{arith}
 use lib.Dec.{T, lit<}
-use lib.Pow.{pow-pos}
-use lib.IntN.{ℤ, pos, negsuc, _+ℤ_, _-ℤ_, _*ℤ_, negℤ}
+use lib.IntN.{ℤ, _+ℤ_, _-ℤ_}
 use borrow.Author.Differences as D
-use borrow.Author.Differences.{same-in, same-out, sum-is, neg-is}
-use lib.Ieee.{Float, Format, binary32, binary64, emax, low, add, sub, mul, fits}
+use borrow.Author.Differences.{same-out, sum-is}
+use lib.Ieee.{Float, Format, binary32, binary64, emax, low, add, sub}
 use lib.Ieee.Fits.{add-fits, sub-fits}
 use lib.Ieee.Scale.{finite}
 use Rattle.rounding.specs.Value.{value}
-use Rattle.rounding.proofs.BinaryNearest.{Near, Nearest, Rep, Within, keeps-within}
+use Rattle.rounding.proofs.BinaryNearest.{Near, Nearest, Within, keeps-within}
 use Rattle.rounding.proofs.TwoSum.{Sum, sub-is, two-sum}
 use Rattle.rounding.proofs.Split.{pow-le}
-use Rattle.rounding.proofs.Floats.{digits, In, Result, Held, value-rep, add-nearest, sub-nearest}
+use Rattle.rounding.proofs.Floats.{digits, Held, value-rep, add-nearest, sub-nearest}
 
 -- x is held, is nearest to v, and is at most 2 ^ n in size
 pub record Op (f : Format) (n : ℕ) (v : ℤ) (x : Float) : Type 0 where

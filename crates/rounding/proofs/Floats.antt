@@ -1,16 +1,19 @@
--- The operations of lib.Ieee, by whole numbers of units: each gives a nearest number.
+-- Float operations, by whole numbers of units. A finite float of a format is a whole number of the format's units with at
+-- most p digits. The exact result of an operation is a fraction; where it is a whole number of units, the float that is
+-- returned stands for a nearest number, provided that it is finite or that the exact result is in range. Sums are brought to
+-- a common denominator first; a product is taken where it is a whole number of units.
 use mathlib.Core.Path.{_≡_, refl, sym, ap, _∙_, subst}
 use mathlib.Core.Logic.{_⊎_, inl, inr}
-use mathlib.Core.Bool.{Bool, true, false, not, _&&_, cond, Bool·beq}
-use Prim.Native.Nat.{ℕ, zero, suc, _+_, _-_, _*_, _/_, _%_, _^_, _≤_, _<_, compare}
-use native.Mathlib.Nat.{le-refl, mul-assoc, mul-comm, mul-left-comm, mul-right-comm, mul-div-cancel, mul-pos, eq-of-mul-eq-mul-right, zero-mul, zero-div, mul-one, add-mul, le-of-mul-le-mul-right, le-of-lt, lt-of-le-of-lt, le-trans, le-of-eq}
+use mathlib.Core.Bool.{Bool, true, false, not, _&&_, cond}
+use Prim.Native.Nat.{ℕ, zero, suc, _+_, _-_, _*_, _/_, _%_, _^_, _≤_, _<_}
+use native.Mathlib.Nat.{mul-assoc, mul-comm, mul-right-comm, mul-div-cancel, mul-pos, eq-of-mul-eq-mul-right, zero-mul, zero-div, mul-one, add-mul, le-of-mul-le-mul-right, le-of-lt, lt-of-le-of-lt, le-trans, le-of-eq}
 use native.Mathlib.Omega.{arith}
-use Rattle.std.proofs.shelf.Tests.{cases-eq, cases-lt}
+use Rattle.std.proofs.shelf.Tests.{cases-lt}
 use lib.Dec.{T, ltb, leb, eqb, ltb→lt, leb→le, nltb→le}
 use lib.Pow.{pow-add, pow-pos, pow-lt, shl-lt}
 use lib.IntN.{ℤ, pos, negsuc, _+ℤ_, _-ℤ_, _*ℤ_, *ℤ-comm, negℤ, negℤ-negℤ}
 use borrow.Author.Differences as D
-use borrow.Author.Differences.{same-in, same-out, sum-is, neg-is, product-is}
+use borrow.Author.Differences.{same-in, sum-is, neg-is, product-is}
 use lib.Ieee.{Float, nan, inf, fin, Format, binary32, binary64, prec, emax, low, up, down, size, odd, units, round, sum, add, sub, neg, mul, unlike, fits}
 use lib.Ieee.Fits.{round-is, neg-fits, down-pos, and-l, and-r}
 use lib.Ieee.Exact.{HasValue, units-val}
@@ -20,7 +23,7 @@ use lib.Ieee.Scale.{grid, overflow, finite}
 use Rattle.rounding.specs.Value.{signed, magnitude, value}
 use Rattle.rounding.proofs.BinaryNearest.{Nearest, Rep, Within, Over, keeps-within}
 use Rattle.rounding.proofs.TwoProduct.{size-le}
-use Rattle.rounding.proofs.TwoSum.{Sum, rep-neg, over-size}
+use Rattle.rounding.proofs.TwoSum.{rep-neg, over-size}
 use Rattle.rounding.proofs.ModelNearest.{round-nearest, nearest-neg}
 
 -- the digits below the leading one

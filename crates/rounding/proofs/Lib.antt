@@ -1,6 +1,11 @@
 pub mod Nearest
 pub mod Rounded
+pub mod Numbers
+pub mod Closest
 pub mod Parts
+pub mod Signs
+pub mod Errors
+pub mod Laws
 pub mod BinaryNearest
 pub mod TwoSum
 pub mod Split

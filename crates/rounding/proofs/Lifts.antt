@@ -1,24 +1,25 @@
--- The grain m / 2 ^ p, one less a grain, and a quotient by it.
+-- The grain m / 2^p, one less a grain, and a quotient by that. The product of m and 2^−p and the difference from 1 have at
+-- most p digits, so both float operations are exact; the one rounding is that of the quotient, a · 2^p / (2^p − m).
 use mathlib.Core.Path.{_≡_, refl, sym, ap, _∙_, subst}
-use mathlib.Core.Logic.{_⊎_, inl, inr}
-use mathlib.Core.Bool.{Bool, true, false}
-use Prim.Native.Nat.{ℕ, zero, suc, _+_, _-_, _*_, _/_, _^_, _≤_, _<_}
-use native.Mathlib.Nat.{mul-comm, mul-assoc, mul-right-comm, mul-one, mul-pos, mul-sub, le-trans, le-of-lt, mul-lt-mul-of-pos-right}
+use mathlib.Core.Logic.{inr}
+use mathlib.Core.Bool.{true, false}
+use Prim.Native.Nat.{ℕ, suc, _+_, _-_, _*_, _^_, _≤_, _<_}
+use native.Mathlib.Nat.{mul-assoc, mul-right-comm, mul-pos, le-of-lt}
 use native.Mathlib.Omega.{arith}
 use lib.Dec.{T, lit<}
-use lib.Pow.{pow-pos, pow-add, shl-lt}
-use lib.IntN.{ℤ, pos, negsuc, _+ℤ_, _-ℤ_, _*ℤ_, negℤ}
+use lib.Pow.{pow-pos, shl-lt}
+use lib.IntN.{ℤ, pos, negsuc, _-ℤ_, _*ℤ_, negℤ}
 use borrow.Author.Differences as D
-use borrow.Author.Differences.{same-in, same-out, sum-is, neg-is, product-is}
-use lib.Ieee.{Float, nan, inf, fin, Format, binary32, binary64, prec, emax, low, up, down, round, ofInt, add, sub, mul, div, fits}
+use borrow.Author.Differences.{same-in}
+use lib.Ieee.{Float, nan, inf, fin, Format, binary32, binary64, prec, emax, low, up, down, round, ofInt, sub, mul, div, fits}
 use lib.Ieee.Fits.{mul-fits, sub-fits, ofInt-fits}
 use lib.Ieee.Exact.{HasValue}
 use lib.Ieee.Back.{round-whole}
-use lib.Ieee.Scale.{finite, overflow}
-use Rattle.rounding.specs.Value.{signed, magnitude, value}
-use Rattle.rounding.proofs.Model.{rounded, rounding}
+use lib.Ieee.Scale.{finite}
+use Rattle.rounding.specs.Value.{magnitude, value}
+use Rattle.rounding.proofs.Model.{rounding}
 use Rattle.rounding.proofs.BinaryNearest.{Rep, Within, exact}
-use Rattle.rounding.proofs.TwoSum.{Sum, sub-is}
+use Rattle.rounding.proofs.TwoSum.{sub-is}
 use Rattle.rounding.proofs.Floats.{digits, prec-is, pos-rep, Held, In, value-is, mul-nearest, sub-nearest}
 use Rattle.rounding.proofs.FloatRounding.{Rounds, rounded-same, rounding-signed, div-rounds}
 

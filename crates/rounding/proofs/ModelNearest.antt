@@ -1,22 +1,24 @@
--- What lib.Ieee keeps of a whole number is nearest to it.
+-- What the library's model of floats keeps of a whole number is nearest to it. With k digits dropped, N = w · 2^k + e, and w
+-- or w + 1 is kept as e is below or above half of 2^k. No number of p digits lies between w · 2^k and (w + 1) · 2^k, since w
+-- has p digits already; so none is nearer than the nearer of the two, in finer units either.
 use mathlib.Core.Path.{_≡_, refl, sym, ap, _∙_, subst}
 use mathlib.Core.Logic.{_⊎_, inl, inr}
 use mathlib.Core.Bool.{not}
 use Prim.Native.Nat.{ℕ, zero, suc, _+_, _-_, _*_, _/_, _%_, _^_, _≤_, _<_, compare, Ordering, Ordering·lt, Ordering·eq, Ordering·gt}
-use native.Mathlib.Nat.{le-refl, mul-le-mul-right, mul-lt-mul-of-pos-right, div-add-mod', mod-lt, le-div-iff-mul-le, lt-of-mul-lt-mul-right, mul-assoc, mul-one, div-one, mod-one, zero-div, zero-mod, add-zero, lt-of-lt-of-le}
+use native.Mathlib.Nat.{mul-le-mul-right, div-add-mod', mod-lt, le-div-iff-mul-le, zero-div, zero-mod, add-zero, lt-of-lt-of-le}
 use native.Mathlib.Omega.{arith}
 use Rattle.std.proofs.shelf.Tests.{cases-eq, cases-lt}
 use lib.Dec.{T, isLe, isEq, leb→le, nleb→lt, eqb→eq}
 use lib.Pow.{pow-add, pow-pos, pow-mono}
-use lib.IntN.{ℤ, pos, negsuc, _+ℤ_, _-ℤ_, _*ℤ_, negℤ, negℤ-negℤ}
-use borrow.Author.Differences.{up, down, same-in, same-out, sum-is, neg-is, product-is}
+use lib.IntN.{ℤ, pos, negℤ}
+use borrow.Author.Differences.{up, down, neg-is}
 use lib.Ieee.{nearest, size}
 use lib.Ieee.Digits.{size-lt, size-reaches}
 use lib.Ieee.Fits.{kept-lt}
 use lib.Ieee.Nearest.{closest}
-use Rattle.rounding.proofs.BinaryNearest.{Near, Under, Within, Over, Div, Rep, Nearest, times, times-is, div-down, div-neg, rep-in, rep-coarse, rep-times, exact}
+use Rattle.rounding.proofs.BinaryNearest.{Near, Rep, Nearest, times-is, rep-in, rep-coarse}
 use Rattle.rounding.proofs.TwoSum.{rep-neg}
-use Rattle.rounding.proofs.Split.{pow-le, step}
+use Rattle.rounding.proofs.Split.{step}
 
 -- ---- the nearest multiple
 abbrev pub Chosen : ℕ → ℕ → ℕ → ℕ → Type 0

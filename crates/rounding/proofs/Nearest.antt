@@ -1,16 +1,18 @@
--- The whole number nearest to a fraction: at most a half away, even at a half; equal fractions have one.
-use Prim.Native.Nat.{ℕ, zero, suc, _+_, _-_, _*_, _/_, _%_, _≤_, _<_}
+-- The whole number nearest to a fraction n / d. Division gives a quotient and a remainder; the remainder, against half of d,
+-- says which of the two whole numbers around n / d is nearer, and at a half the even one is taken. Hence it lies at most a
+-- half away and is even at a half. From these two facts alone it follows that a larger fraction has no smaller
+-- nearest whole number.
+use Prim.Native.Nat.{ℕ, suc, _+_, _*_, _/_, _%_, _≤_, _<_}
 use native.Mathlib.Omega.{arith}
-use native.Mathlib.Nat.{mul-le-mul-left, mul-le-mul-right, le-of-mul-le-mul-right, mul-pos, mod-lt, mod-add-div'}
+use native.Mathlib.Nat.{mul-le-mul-right, mul-pos, mod-lt, mod-add-div'}
 use native.Mathlib.Decide.{decLe}
-use mathlib.Core.Path.{_≡_, refl, sym}
+use mathlib.Core.Path.{_≡_, refl}
 use mathlib.Core.Bool.{Bool, true, false, cond, _&&_, _||_}
 use lib.Dec.{ltb, eqb}
 use borrow.Author.Tests.{ltb-true, ltb-false, eqb-true, eqb-apart}
 use Rattle.integers.proofs.Naturals.{cancel}
 use Rattle.rounding.specs.Radix.{nearest}
 
--- ---- the nearest whole number
 -- m is nearest to n / d: within a half, and even at a half
 pub record Nearest (n d m : ℕ) : Type 0 where
   pub not-above : 2 * (m * d) ≤ 2 * n + d
@@ -40,20 +42,18 @@ pub nearest-is : (n d : ℕ) → 0 < d → Nearest n d (nearest n d)
 unfolding nearest
 nearest-is n d h = nearest-by n d (n / d) (n % d) (omega (arith, mod-add-div' n d)) (mod-lt n h) _ _ _ refl refl refl
 
--- equal fractions have one nearest whole number
-tie-n : (n d n′ d′ m m′ : ℕ) → n * d′ ≡ n′ * d → 2 * n ≤ 2 * (m * d) + d → 2 * (m′ * d′) ≤ 2 * n′ + d′ → suc m ≤ m′ →
+-- a larger fraction has no smaller nearest whole number: were it smaller by one, both fractions would lie a half between the
+-- two, and both whole numbers would be even
+halves : (n d n′ d′ m m′ : ℕ) → n′ * d ≤ n * d′ → 2 * n ≤ 2 * (m * d) + d → 2 * (m′ * d′) ≤ 2 * n′ + d′ → suc m ≤ m′ →
     (2 * n * d′ ≡ (2 * (m * d) + d) * d′) × (2 * (m′ * d′) * d ≡ (2 * n′ + d′) * d) × (m′ * (d * d′) ≡ suc m * (d * d′))
-tie-n n d n′ d′ m m′ e a b l = omega (arith, mul-le-mul-right d′ a, mul-le-mul-right d b, mul-le-mul-right (d * d′) l)
+halves n d n′ d′ m m′ e a b l = omega (arith, mul-le-mul-right d′ a, mul-le-mul-right d b, mul-le-mul-right (d * d′) l)
 
-below : (n d n′ d′ m m′ : ℕ) → 0 < d → 0 < d′ → n * d′ ≡ n′ * d → Nearest n d m → Nearest n′ d′ m′ → m′ ≤ m
-below n d n′ d′ m m′ h h′ e a b = go (decLe m′ m)
+pub nearest-mono : (n d n′ d′ m m′ : ℕ) → 0 < d → 0 < d′ → n′ * d ≤ n * d′ → Nearest n d m → Nearest n′ d′ m′ → m′ ≤ m
+nearest-mono n d n′ d′ m m′ h h′ e a b = go (decLe m′ m)
   where
     go : Dec (m′ ≤ m) → m′ ≤ m
     go (yes l) = l
-    go (no l) = absurd (both (tie-n n d n′ d′ m m′ e (a .not-below) (b .not-above) (omega arith)))
+    go (no l) = absurd (both (halves n d n′ d′ m m′ e (a .not-below) (b .not-above) (omega arith)))
       where
         both : (2 * n * d′ ≡ (2 * (m * d) + d) * d′) × (2 * (m′ * d′) * d ≡ (2 * n′ + d′) * d) × (m′ * (d * d′) ≡ suc m * (d * d′)) → ⊥
         both t = omega (arith, a .even-down (cancel (2 * n) (2 * (m * d) + d) d′ h′ (t .0)), b .even-up (cancel (2 * (m′ * d′)) (2 * n′ + d′) d h (t .1)), cancel m′ (suc m) (d * d′) (mul-pos h h′) (t .2))
-
-pub one-nearest : (n d n′ d′ m m′ : ℕ) → 0 < d → 0 < d′ → n * d′ ≡ n′ * d → Nearest n d m → Nearest n′ d′ m′ → m ≡ m′
-one-nearest n d n′ d′ m m′ h h′ e a b = omega (arith, below n d n′ d′ m m′ h h′ e a b, below n′ d′ n d m′ m h′ h (sym e) b a)

@@ -1,20 +1,22 @@
--- Rounding to p digits in radix B: the exponent is the least that leaves p digits, and the significand is the nearest whole
--- number. From these two facts follow that equal fractions round alike, the relative error, and that rounding twice is
--- rounding once.
+-- Rounding the size n / d to p digits in radix B. The exponent is the least that leaves p digits, and the significand is the
+-- nearest whole number (`Rounds`); everything else follows from these two facts. The significand lies between B^(p−1) and
+-- B^p, unless the exponent is 0. So a larger fraction rounds to no less, equal fractions round alike, the error, half a unit
+-- of the last digit, is small against the value, and what has p digits is left unchanged.
 use Prim.Native.Nat.{ℕ, zero, suc, _+_, _-_, _*_, _^_, _≤_, _<_}
 use native.Mathlib.Omega.{arith}
-use native.Mathlib.Nat.{mul-le-mul-left, mul-le-mul-right, le-of-mul-le-mul-right, pow-succ', pow-zero, pow-le-pow-right, mul-pos}
+use native.Mathlib.Nat.{mul-le-mul, mul-le-mul-left, mul-le-mul-right, le-of-mul-le-mul-right, pow-succ', pow-zero, pow-le-pow-right, mul-pos, le-trans, le-antisymm, le-of-eq}
 use native.Mathlib.Decide.{decLe, ℕ-discrete}
 use mathlib.Core.Path.{_≡_, refl, sym, ap, _∙_, subst}
 use mathlib.Core.Bool.{Bool, true, false}
-use mathlib.Core.Logic.{_⊎_, inl, inr, ⊎-elim}
+use mathlib.Core.Logic.{_⊎_, ⊎-elim}
 use lib.Dec.{ltb}
 use lib.Pow.{pow-add}
 use borrow.Author.Tests.{ltb-true, ltb-false}
 use Rattle.integers.proofs.Naturals.{cancel, some-power, before}
 use Rattle.rounding.specs.Radix.{nearest, exponent, rounded}
-use Rattle.rounding.proofs.Nearest.{Nearest, nearest-is, one-nearest}
+use Rattle.rounding.proofs.Nearest.{Nearest, nearest-is, nearest-mono}
 
+-- r is n / d rounded: m · B^e
 pub record Rounds (B p n d r : ℕ) : Type 0 where
   pub e : ℕ
   pub m : ℕ
@@ -53,7 +55,7 @@ below-power B (suc n) h = rw (pow-succ' B n) (more (B ^ n) (below-power B n h))
     more : (x : ℕ) → n < x → suc n < B * x
     more x k = omega (arith, mul-le-mul-right x h)
 
-crossing : (n d n′ d′ X x y : ℕ) → n * d′ ≡ n′ * d → n < d * X * x → d′ * X * y ≤ n′ → x ≤ y → 0 < d′ → ⊥
+crossing : (n d n′ d′ X x y : ℕ) → n′ * d ≤ n * d′ → n < d * X * x → d′ * X * y ≤ n′ → x ≤ y → 0 < d′ → ⊥
 crossing n d n′ d′ X x y e h k l p = omega (arith, mul-le-mul-right d′ h, mul-le-mul-right d k, mul-le-mul-left (d * d′ * X) l)
 
 -- U |r d − n| is at most n and at most r d
@@ -71,8 +73,8 @@ tight-by H D m n a b h k = record { up-exact = omega (arith, x, y); down-exact =
     y : H * (2 * n) ≤ H * (2 * (m * D) + D)
     y = mul-le-mul-left H b
 
-no-smaller : (H D m n : ℕ) → 0 < D → H * D ≤ n → 2 * n ≤ 2 * (m * D) + D → H * D ≤ m * D
-no-smaller H D m n p h k = mul-le-mul-right D (half (le-of-mul-le-mul-right {m = 2 * H} {n = 2 * m + 1} {k = D} (omega arith) p))
+no-smaller : (H D m n : ℕ) → 0 < D → H * D ≤ n → 2 * n ≤ 2 * (m * D) + D → H ≤ m
+no-smaller H D m n p h k = half (le-of-mul-le-mul-right {m = 2 * H} {n = 2 * m + 1} {k = D} (omega arith) p)
   where
     half : 2 * H ≤ 2 * m + 1 → H ≤ m
     half q = omega arith
@@ -95,28 +97,7 @@ module _ (B p : ℕ) (base : 2 ≤ B) (digits : 1 ≤ p) where
       x : (n < d * B ^ p * B ^ e) × ((k : ℕ) → e ≡ suc k → d * B ^ p * B ^ k ≤ n)
       x = exponent-is B n n (d * B ^ p) (enough (d * B ^ p) (B ^ n) (mul-pos h (some-power B p some-B)) (below-power B n base))
 
-  -- ---- one multiple for each fraction
-  no-less : (n d n′ d′ r r′ : ℕ) → 0 < d → 0 < d′ → n * d′ ≡ n′ * d → (a : Rounds B p n d r) (b : Rounds B p n′ d′ r′) → b .e ≤ a .e
-  no-less n d n′ d′ r r′ h h′ q a b = go (decLe (b .e) (a .e))
-    where
-      go : Dec (b .e ≤ a .e) → b .e ≤ a .e
-      go (yes l) = l
-      go (no l) = absurd (crossing n d n′ d′ (B ^ p) (B ^ a .e) (B ^ k .0) q (a .under) (b .least (k .0) (k .1)) (pow-le-pow-right some-B (omega (arith, k .1))) h′)
-        where
-          k : (k : ℕ) × (b .e ≡ suc k)
-          k = before (b .e) (omega arith)
-
-  pub one-rounds : (n d n′ d′ r r′ : ℕ) → 0 < d → 0 < d′ → n * d′ ≡ n′ * d → Rounds B p n d r → Rounds B p n′ d′ r′ → r ≡ r′
-  one-rounds n d n′ d′ r r′ h h′ q a b = a .is ∙ ap (λ x. x * B ^ a .e) same-m ∙ ap (λ x. b .m * B ^ x) same-e ∙ sym (b .is)
-    where
-      same-e : a .e ≡ b .e
-      same-e = omega (arith, no-less n d n′ d′ r r′ h h′ q a b, no-less n′ d′ n d r′ r h′ h (sym q) b a)
-      widen : (x : ℕ) → n * (d′ * x) ≡ n′ * (d * x)
-      widen x = omega (arith, ap (λ y. y * x) q)
-      same-m : a .m ≡ b .m
-      same-m = one-nearest n (d * B ^ a .e) n′ (d′ * B ^ b .e) (a .m) (b .m) (mul-pos h (some-power B (a .e) some-B)) (mul-pos h′ (some-power B (b .e) some-B)) (rw (← same-e) (widen (B ^ a .e))) (a .near) (b .near)
-
-  -- ---- the errors, with U = 2 B^(p−1)
+  -- ---- the significand lies between B^(p−1), unless the exponent is 0, and B^p
   abbrev pub H : ℕ
   H = B ^ (p - 1)
 
@@ -126,13 +107,70 @@ module _ (B p : ℕ) (base : 2 ≤ B) (digits : 1 ≤ p) where
       up : (p : ℕ) → 1 ≤ p → p ≡ suc (p - 1)
       up p h = omega arith
 
+  pub at-most-digits : (n d r : ℕ) → 0 < d → (a : Rounds B p n d r) → a .m ≤ B ^ p
+  at-most-digits n d r h a = le (le-of-mul-le-mul-right {m = 2 * a .m} {n = 2 * B ^ p + 1} {k = d * B ^ a .e} (omega (arith, a .near .not-above, a .under)) (mul-pos h (some-power B (a .e) some-B)))
+    where
+      le : 2 * a .m ≤ 2 * B ^ p + 1 → a .m ≤ B ^ p
+      le z = omega arith
+
+  large : (n d r k : ℕ) → (a : Rounds B p n d r) → a .e ≡ suc k → H * (d * B ^ a .e) ≤ n
+  large n d r k a q = rw (q, pow-succ' B k) (regroup H d B (B ^ k) (rw H-is at (a .least k q)))
+    where
+      regroup : (H d B x : ℕ) → d * (B * H) * x ≤ n → H * (d * (B * x)) ≤ n
+      regroup H d B x z = omega arith
+
+  pub at-least : (n d r k : ℕ) → 0 < d → (a : Rounds B p n d r) → a .e ≡ suc k → H ≤ a .m
+  at-least n d r k h a q = no-smaller H (d * B ^ a .e) (a .m) n (mul-pos h (some-power B (a .e) some-B)) (large n d r k a q) (a .near .not-below)
+
+  -- ---- a larger fraction is rounded to no less
+  -- its exponent is no smaller
+  exponent-mono : (n d n′ d′ r r′ : ℕ) → 0 < d → 0 < d′ → n′ * d ≤ n * d′ → (a : Rounds B p n d r) (b : Rounds B p n′ d′ r′) → b .e ≤ a .e
+  exponent-mono n d n′ d′ r r′ h h′ q a b = go (decLe (b .e) (a .e))
+    where
+      go : Dec (b .e ≤ a .e) → b .e ≤ a .e
+      go (yes l) = l
+      go (no l) = absurd (crossing n d n′ d′ (B ^ p) (B ^ a .e) (B ^ k .0) q (a .under) (b .least (k .0) (k .1)) (pow-le-pow-right some-B (omega (arith, k .1))) h′)
+        where
+          k : (k : ℕ) × (b .e ≡ suc k)
+          k = before (b .e) (omega arith)
+
+  -- at the same exponent the significands decide
+  same-exponent : (n d n′ d′ r r′ : ℕ) → 0 < d → 0 < d′ → n′ * d ≤ n * d′ → (a : Rounds B p n d r) (b : Rounds B p n′ d′ r′) → b .e ≡ a .e → r′ ≤ r
+  same-exponent n d n′ d′ r r′ h h′ q a b s = rw (a .is, b .is, s) (mul-le-mul-right (B ^ a .e) (nearest-mono n (d * B ^ a .e) n′ (d′ * B ^ a .e) (a .m) (b .m) (some h) (some h′) (widen (B ^ a .e)) (a .near) (subst (λ (x : ℕ). Nearest n′ (d′ * B ^ x) (b .m)) s (b .near))))
+    where
+      some : {x : ℕ} → 0 < x → 0 < x * B ^ a .e
+      some k = mul-pos k (some-power B (a .e) some-B)
+      widen : (x : ℕ) → n′ * (d * x) ≤ n * (d′ * x)
+      widen x = omega (arith, mul-le-mul-right x q)
+
+  -- at a larger one, B^(p−1) units of it are at least B^p of any smaller
+  pub rounds-mono : (n d n′ d′ r r′ : ℕ) → 0 < d → 0 < d′ → n′ * d ≤ n * d′ → Rounds B p n d r → Rounds B p n′ d′ r′ → r′ ≤ r
+  rounds-mono n d n′ d′ r r′ h h′ q a b = go (decLe (a .e) (b .e))
+    where
+      order : b .e ≤ a .e
+      order = exponent-mono n d n′ d′ r r′ h h′ q a b
+      go : Dec (a .e ≤ b .e) → r′ ≤ r
+      go (yes l) = same-exponent n d n′ d′ r r′ h h′ q a b (le-antisymm order l)
+      go (no l) = up (before (a .e) (omega arith))
+        where
+          up : ((k : ℕ) × (a .e ≡ suc k)) → r′ ≤ r
+          up k = le-trans small (rw (a .is, k .1, pow-succ' B (k .0)) (large (a .m) H (B ^ k .0) B (at-least n d r (k .0) h a (k .1))))
+            where
+              small : r′ ≤ B * H * B ^ k .0
+              small = rw (b .is, ← H-is) (mul-le-mul (at-most-digits n′ d′ r′ h′ b) (pow-le-pow-right some-B (omega (arith, k .1))))
+              large : (m x y b : ℕ) → x ≤ m → b * x * y ≤ m * (b * y)
+              large m x y b z = omega (arith, mul-le-mul-right (b * y) z)
+
+  -- equal fractions are rounded alike
+  pub one-rounds : (n d n′ d′ r r′ : ℕ) → 0 < d → 0 < d′ → n * d′ ≡ n′ * d → Rounds B p n d r → Rounds B p n′ d′ r′ → r ≡ r′
+  one-rounds n d n′ d′ r r′ h h′ q a b = le-antisymm (rounds-mono n′ d′ n d r′ r h′ h (le-of-eq q) b a) (rounds-mono n d n′ d′ r r′ h h′ (le-of-eq (sym q)) a b)
+
+  -- ---- the errors, with U = 2 B^(p−1)
   pub tight : (n d r : ℕ) → 0 < d → (a : Rounds B p n d r) → (a .e ≡ 0 → (r * d ≡ n) ⊎ (H < r)) → Tight (2 * H) n (r * d)
   tight n d r h a small = go (ℕ-discrete (a .e) 0)
     where
       D : ℕ
       D = d * B ^ a .e
-      some-D : 0 < D
-      some-D = mul-pos h (some-power B (a .e) some-B)
       value : r * d ≡ a .m * D
       value = ap (λ x. x * d) (a .is) ∙ regroup (a .m) (B ^ a .e) d
         where
@@ -140,11 +178,6 @@ module _ (B p : ℕ) (base : 2 ≤ B) (digits : 1 ≤ p) where
           regroup m x d = omega arith
       wide : H * D ≤ n → H * D ≤ a .m * D → Tight (2 * H) n (r * d)
       wide k l = rw value (tight-by H D (a .m) n (a .near .not-above) (a .near .not-below) k l)
-      large : (k : ℕ) → a .e ≡ suc k → H * D ≤ n
-      large k q = rw (q, pow-succ' B k) (regroup H d B (B ^ k) (rw H-is at (a .least k q)))
-        where
-          regroup : (H d B x : ℕ) → d * (B * H) * x ≤ n → H * (d * (B * x)) ≤ n
-          regroup H d B x z = omega arith
       exact : r * d ≡ n → Tight (2 * H) n (r * d)
       exact q = rw q (record { up-exact = omega arith; down-exact = omega arith; up-rounded = omega arith; down-rounded = omega arith })
       above : a .e ≡ 0 → H < r → Tight (2 * H) n (r * d)
@@ -161,15 +194,9 @@ module _ (B p : ℕ) (base : 2 ≤ B) (digits : 1 ≤ p) where
           low z = omega (arith, mul-le-mul-right D k′)
       go : Dec (a .e ≡ 0) → Tight (2 * H) n (r * d)
       go (yes q) = ⊎-elim exact (above q) (small q)
-      go (no q) = let k = before (a .e) (omega arith) in wide (large (k .0) (k .1)) (no-smaller H D (a .m) n some-D (large (k .0) (k .1)) (a .near .not-below))
+      go (no q) = let k = before (a .e) (omega arith) in wide (large n d r (k .0) a (k .1)) (mul-le-mul-right D (at-least n d r (k .0) h a (k .1)))
 
   -- ---- what is rounded stays
-  pub at-most-digits : (n d r : ℕ) → 0 < d → (a : Rounds B p n d r) → a .m ≤ B ^ p
-  at-most-digits n d r h a = le (le-of-mul-le-mul-right {m = 2 * a .m} {n = 2 * B ^ p + 1} {k = d * B ^ a .e} (omega (arith, a .near .not-above, a .under)) (mul-pos h (some-power B (a .e) some-B)))
-    where
-      le : 2 * a .m ≤ 2 * B ^ p + 1 → a .m ≤ B ^ p
-      le z = omega arith
-
   pub exact-out : (n d r t : ℕ) → 0 < d → (c : Rounds B p n d r) → n ≡ t * (d * B ^ c .e) → r * d ≡ n
   exact-out n d r t h c q = ap (λ x. x * d) (c .is ∙ ap (λ x. x * B ^ c .e) m-is) ∙ regroup t (B ^ c .e) d ∙ sym q
     where

@@ -1,17 +1,20 @@
--- TwoProduct in any units: a and b are whole numbers of units, and their product is v units of another size, v * L.
-use mathlib.Core.Path.{_≡_, refl, sym, ap, _∙_, subst}
+-- TwoProduct in the units of a format. The product of two whole numbers of units is v · 2^k of them, and v is what is
+-- rounded. In units finer by p digits every number but 0 has all its p digits, so Split and TwoProduct apply there as they
+-- stand; that a nearest number stays nearest in finer units brings their steps over, and the factor cancels in the end.
+-- Where the product is large enough, the partial products are whole numbers of units too.
+use mathlib.Core.Path.{_≡_, sym, ap, _∙_, subst}
 use mathlib.Core.Logic.{_⊎_, inl, inr}
-use Prim.Native.Nat.{ℕ, zero, suc, _+_, _-_, _*_, _^_, _≤_, _<_}
-use native.Mathlib.Nat.{le-refl, add-zero, mul-le-mul, mul-le-mul-right, mul-lt-mul-of-pos-right, eq-of-mul-eq-mul-right, pow-succ', mul-assoc, mul-comm, le-of-mul-le-mul-right, lt-of-mul-lt-mul-right}
+use Prim.Native.Nat.{ℕ, suc, _+_, _*_, _^_, _≤_, _<_}
+use native.Mathlib.Nat.{add-zero, mul-le-mul-right, eq-of-mul-eq-mul-right, mul-comm, le-of-mul-le-mul-right}
 use native.Mathlib.Omega.{arith}
-use Rattle.std.proofs.shelf.Tests.{cases-eq, cases-lt}
-use lib.Pow.{pow-add, pow-pos, pow-mono, pow-lt}
-use lib.IntN.{ℤ, pos, negsuc, _+ℤ_, _-ℤ_, _*ℤ_, negℤ}
-use borrow.Author.Differences.{up, down, same-in, same-out, sum-is, neg-is, product-is}
-use Rattle.rounding.proofs.BinaryNearest.{Near, Under, Within, Over, Div, Rep, Nearest, times, times-is, div-down, rep-in, rep-times, exact, coarse, half, nearest-times, keeps-pow}
-use Rattle.rounding.proofs.TwoSum.{Sum, sub-is, div-sum, div-rest, one-side, over-size, size-over, Normal, normal}
-use Rattle.rounding.proofs.Split.{Parts, Factor, split, pow-le, pow-at}
-use Rattle.rounding.proofs.TwoProduct.{Sized, Places, two-product, div-pow, within-pow, over-pow, size-le, size-mul}
+use Rattle.std.proofs.shelf.Tests.{cases-lt}
+use lib.Pow.{pow-add, pow-pos, pow-lt}
+use lib.IntN.{ℤ, pos, _+ℤ_, _-ℤ_, _*ℤ_}
+use borrow.Author.Differences.{up, down, same-in, same-out, sum-is, product-is}
+use Rattle.rounding.proofs.BinaryNearest.{Under, Within, Over, Div, Rep, Nearest, times, times-is, div-down, rep-times, nearest-times}
+use Rattle.rounding.proofs.TwoSum.{Sum, sub-is, one-side, size-over, Normal, normal}
+use Rattle.rounding.proofs.Split.{Parts, Factor, split, pow-le}
+use Rattle.rounding.proofs.TwoProduct.{Sized, Places, two-product, div-pow, within-pow, over-pow, size-le}
 
 -- ---- laws of `times`
 pub times-sum : (m : ℕ) (a b s : ℤ) → Sum a b s → Sum (times m a) (times m b) (times m s)

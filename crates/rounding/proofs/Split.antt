@@ -1,15 +1,19 @@
--- Split: a number of p digits is the sum of one of p - s digits and one of s - 1.
-use mathlib.Core.Path.{_≡_, refl, sym, ap, _∙_, subst}
+-- Split, after Veltkamp: a number a of p digits becomes the sum of a1, its leading p − s digits, and a2 of s − 1 digits with
+-- a sign of its own. With γ the rounding of (2^s + 1) · a and δ that of a − γ, a1 is γ + δ and a2 is a − a1. Both γ and δ
+-- are multiples of 2^s units of a's last digit, being so large that rounding leaves no finer ones, and γ + δ differs from a
+-- by at most 2^(s−1) such units; so the last two operations are exact. Where the size of a is the least power of two at its
+-- exponent, γ and δ are exact themselves.
+use mathlib.Core.Path.{_≡_, sym, ap, _∙_, subst}
 use mathlib.Core.Logic.{_⊎_, inl, inr}
-use Prim.Native.Nat.{ℕ, zero, suc, _+_, _-_, _*_, _^_, _≤_, _<_}
-use native.Mathlib.Nat.{le-refl, mul-assoc, pow-succ', mul-le-mul-right, lt-of-mul-lt-mul-right, add-suc, add-assoc}
+use Prim.Native.Nat.{ℕ, suc, _+_, _-_, _*_, _^_, _≤_, _<_}
+use native.Mathlib.Nat.{le-refl, mul-assoc, mul-le-mul-right, lt-of-mul-lt-mul-right}
 use native.Mathlib.Omega.{arith}
-use Rattle.std.proofs.shelf.Tests.{cases-eq, cases-lt}
+use Rattle.std.proofs.shelf.Tests.{cases-eq}
 use lib.Pow.{pow-add, pow-pos, pow-mono}
-use lib.IntN.{ℤ, pos, negsuc, _+ℤ_, _-ℤ_, _*ℤ_, negℤ}
-use borrow.Author.Differences.{up, down, same-in, same-out, sum-is, neg-is, product-is}
-use Rattle.rounding.proofs.BinaryNearest.{Near, Under, Within, Over, Div, Rep, Nearest, times, times-is, div-neg, div-down, div-gap, div-times, split-pow, pow-up, pow-double, pow-next, rep-in, rep-pow, pow-div, exact, keeps-low, keeps-pow, keeps-div, coarse, half, cases-size}
-use Rattle.rounding.proofs.TwoSum.{Sum, sub-is, div-sum, div-rest, Below}
+use lib.IntN.{ℤ, negℤ}
+use borrow.Author.Differences.{up, down, same-in, same-out, neg-is}
+use Rattle.rounding.proofs.BinaryNearest.{Near, Under, Within, Over, Div, Nearest, times, times-is, div-neg, div-down, div-gap, div-times, split-pow, pow-next, rep-in, rep-pow, pow-div, exact, coarse, half}
+use Rattle.rounding.proofs.TwoSum.{Sum, div-sum, div-rest}
 
 pub pow-le : (m n : ℕ) → m ≤ n → 2 ^ m ≤ 2 ^ n
 pow-le m n h = pow-mono h
@@ -112,9 +116,6 @@ over-factor n a h c k e (inr o) f g = let x = g (omega arith) in inr (omega arit
 signed : (n : ℕ) (a : ℤ) (m : ℕ) → 0 < m → Over n (times m a) → 0 < n → (down a ≤ up a → down (times m a) + n ≤ up (times m a)) × (up a ≤ down a → up (times m a) + n ≤ down (times m a))
 signed n a m M (inl o) N = ((λ _. o), λ l. absurd (let x : up a * m ≤ down a * m = mul-le-mul-right m l in omega (arith, times-is m a)))
 signed n a m M (inr o) N = ((λ l. absurd (let x : down a * m ≤ up a * m = mul-le-mul-right m l in omega (arith, times-is m a))), λ _. o)
-
-drop-zero : (x y n c m : ℕ) → x + n + 0 * m ≤ y → x + n ≤ y
-drop-zero x y n c m h = omega arith
 
 over-h : (q r i : ℕ) (a : ℤ) → Over (2 ^ (q + i)) a → Over (2 ^ (q + (suc r + i))) (times (2 ^ suc r) a)
 over-h q r i a o = go (over-shifted (q + i) r i 0 a (start o))

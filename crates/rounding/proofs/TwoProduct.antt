@@ -1,15 +1,18 @@
--- TwoProduct: the partial products and each step of the last line are exact, so the error is found.
+-- TwoProduct, after Dekker: with a and b split, x the rounded product and the four partial products exact, the error a · b −
+-- x is a2 · b2 − (((x − a1 · b1) − a2 · b1) − a1 · b2), and each of these four subtractions is exact. Each gives a multiple
+-- of the last digit of its operands, and each difference is small, for what is left is the error of x, half a unit of its
+-- last digit, and the partial products yet to be subtracted.
 use mathlib.Core.Path.{_≡_, refl, sym, ap, _∙_, subst}
-use mathlib.Core.Logic.{_⊎_, inl, inr}
-use Prim.Native.Nat.{ℕ, zero, suc, _+_, _-_, _*_, _^_, _≤_, _<_}
-use native.Mathlib.Nat.{le-refl, mul-le-mul, mul-le-mul-right, mul-le-mul-left, pow-succ'}
+use mathlib.Core.Logic.{inl, inr}
+use Prim.Native.Nat.{ℕ, suc, _+_, _*_, _^_, _≤_, _<_}
+use native.Mathlib.Nat.{le-refl, mul-le-mul, pow-succ'}
 use native.Mathlib.Omega.{arith}
-use lib.Pow.{pow-add, pow-pos, pow-mono}
-use lib.IntN.{ℤ, pos, negsuc, _+ℤ_, _-ℤ_, _*ℤ_, negℤ}
-use borrow.Author.Differences.{up, down, same-in, same-out, sum-is, neg-is, product-is}
+use lib.Pow.{pow-add}
+use lib.IntN.{ℤ, _+ℤ_, _-ℤ_, _*ℤ_}
+use borrow.Author.Differences.{up, down, same-in, sum-is, product-is}
 use Rattle.rounding.proofs.BinaryNearest.{Near, Under, Within, Over, Div, Rep, Nearest, div-down, rep-in, exact, coarse, half}
-use Rattle.rounding.proofs.TwoSum.{Sum, sub-is, div-sum, div-rest, one-side, over-size, size-over}
-use Rattle.rounding.proofs.Split.{Parts, pow-le, pow-at}
+use Rattle.rounding.proofs.TwoSum.{Sum, sub-is, div-rest, one-side, over-size, size-over}
+use Rattle.rounding.proofs.Split.{Parts, pow-le}
 
 -- ---- products of integers
 pub dist : (a1 a2 a c : ℤ) → Sum a1 a2 a → Sum (a1 *ℤ c) (a2 *ℤ c) (a *ℤ c)

@@ -1,14 +1,18 @@
--- TwoSum: the error of a rounded sum is a number of p digits, and the six operations find it.
-use mathlib.Core.Path.{_≡_, refl, sym, ap, _∙_, subst}
+-- TwoSum, of Knuth and Møller: with x the rounded sum of a and b and z the rounding of x − a, the rounding of (a − (x − z))
+-- + (b − z) is the exact error a + b − x. The error has p digits: it is a multiple of the finer last digit of a and b, and
+-- at most as large as the operand that has it, because the other operand is a number that near to the sum. Where b is no
+-- larger than a, x − a is exact; where it is larger and the sum is smaller than a, the sum is exact; and else x is no
+-- smaller than a, so that z − x is exact, and so are a − (x − z) and b − z, one as an error of a sum and the other because z
+-- is near b. So the last sum is the error itself, and exact.
+use mathlib.Core.Path.{_≡_, refl, sym, subst}
 use mathlib.Core.Logic.{_⊎_, inl, inr}
-use Prim.Native.Nat.{ℕ, zero, suc, _+_, _-_, _*_, _^_, _≤_, _<_}
-use native.Mathlib.Nat.{le-refl, pow-succ'}
+use Prim.Native.Nat.{ℕ, zero, suc, _+_, _*_, _^_, _≤_, _<_}
 use native.Mathlib.Omega.{arith}
-use Rattle.std.proofs.shelf.Tests.{cases-eq, cases-lt}
+use Rattle.std.proofs.shelf.Tests.{cases-lt}
 use lib.Pow.{pow-add, pow-pos, pow-mono}
 use lib.IntN.{ℤ, pos, negsuc, _+ℤ_, _-ℤ_, negℤ}
 use borrow.Author.Differences.{up, down, same-in, same-out, sum-is, neg-is}
-use Rattle.rounding.proofs.BinaryNearest.{Near, Under, Within, Over, Div, Rep, Nearest, div-neg, div-down, div-gap, pow-up, pow-double, pow-next, rep-in, exact, keeps-low, keeps-pow, keeps-div, coarse, half, cases-size}
+use Rattle.rounding.proofs.BinaryNearest.{Near, Under, Within, Over, Div, Rep, Nearest, div-neg, div-down, div-gap, pow-next, rep-in, exact, keeps-low, keeps-div, coarse, half, cases-size}
 
 -- s is the sum of a and b; so b is s less a
 abbrev pub Sum : ℤ → ℤ → ℤ → Type 0

@@ -1,6 +1,6 @@
 -- Rounding to p digits in radix β: to nearest, ties to the even significand, with no upper end.
 -- Sizes are counted in units of the smallest value above 0, so a number of p digits is m · β^e with m < β^p and e ≥ 0.
-use Prim.Native.Nat.{ℕ, zero, suc, _+_, _*_, _/_, _%_, _^_}
+use Prim.Native.Nat.{ℕ, zero, suc, _*_, _/_, _%_, _^_}
 use mathlib.Core.Bool.{true, false, cond, _&&_, _||_}
 use lib.Dec.{ltb, eqb}
 use lib.IntN.{ℤ, pos, negsuc, negℤ}
