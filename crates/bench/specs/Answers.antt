@@ -5,6 +5,7 @@ use Prim.Native.Nat.{ℕ}
 use lib.IntN.{ℤ}
 use Rattle.std.specs.declared.result.Result.{Result}
 use Rattle.std.specs.declared.result.Result.the-variants.{Ok, Err}
+use Rattle.arithmetic.specs.Meaning.{Meaning, Number}
 use Rattle.arithmetic.specs.Causes.{cause-number}
 use Rattle.coefficients.specs.Calls.{Answer, added, cleared, asked, refused}
 use Rattle.bench.specs.declared.refusal.Refusal.{Refusal}
@@ -37,3 +38,8 @@ told-cleared (Err r) = told-refusal r
 abbrev pub told-asked : {N : Type 0} → (N → ℤ) → Result (N × N) Refusal → Answer
 told-asked value (Ok p) = asked (value (p .0)) (value (p .1))
 told-asked value (Err r) = told-refusal r
+
+-- an answered value and its bound are numbers
+abbrev pub Asked-numbers : {N : Type 0} → Meaning → (N → ℤ) → Result (N × N) Refusal → Type 0
+Asked-numbers m value (Ok p) = Number m (value (p .0)) × Number m (value (p .1))
+Asked-numbers m value (Err r) = Unit {0}

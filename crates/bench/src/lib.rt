@@ -12,9 +12,10 @@ ghost use Rattle.coefficients.specs.Calls.{row-refusal, new-bench, add as add-c
 ghost use Rattle.coefficients.specs.Book.{accepted};
 ghost use Rattle.coefficients.specs.Law.{Book-law};
 ghost use Rattle.row.specs.Reading.{plain-cell};
-ghost use Rattle.bench.specs.Answers.{told-row, told-added, told-cleared, told-asked};
+ghost use Rattle.bench.specs.Answers.{told-row, told-added, told-cleared, told-asked, Asked-numbers};
 ghost use Rattle.bench.specs.Benches.{making-of, state-of, Standing, Called, Keeps, Addition-leaves, Clearing-leaves};
 use arithmetic::Arithmetic;
+use closing::close;
 use refusal::Refusal;
 use refusal::RefusalOfCause;
 use refusal::RefusalOfRange;
@@ -122,5 +123,71 @@ impl<'r, A: Arithmetic> Bench<'r, A> {
         row::add(arith, x, self.row, number as usize)?;
         self.held = number;
         Ok(number)
+    }
+
+    // Makes the row new and forgets the zeros. Refusal: 2.
+    pub fn clear(&mut self, arith: &A) -> Result<(), Refusal>
+        requires law { ⌜ A·Arithmetic .lawful (now arith) ⌝ }
+        requires standing { ⌜ Standing (now self) ⌝ }
+        ensures called { λ r. ⌜ Called (making-of (A·Arithmetic .setting (now (arith .entry))) (now (self .entry))) (state-of (A·Arithmetic .setting (now (arith .entry))) (now (self .entry))) (state-of (A·Arithmetic .setting (now (arith .entry))) (now (self .exit))) clear-call (told-cleared r) ⌝ }
+        ensures cells { λ r. ⌜ Clearing-leaves (A·Arithmetic .setting (now (arith .entry))) (accepted (told-cleared r)) (now (now (self .entry) .row)) (now (now (self .exit) .row)) ⌝ }
+        ensures keeps { λ _. ⌜ Keeps (A·Arithmetic .setting (now (arith .entry))) (now (self .entry)) (now (self .exit)) ⌝ }
+        ensures lender { λ _. ⌜ name (now (self .exit) .row) ≡ name (now (self .entry) .row) ⌝ }
+    {
+        let free = self.out == 0;
+        self.clear_if(arith, free)
+    }
+
+    // Clears a bench of which no question is out.
+    fn clear_if(&mut self, arith: &A, free: bool) -> Result<(), Refusal>
+        requires law { ⌜ A·Arithmetic .lawful (now arith) ⌝ }
+        requires standing { ⌜ Standing (now self) ⌝ }
+        requires free { ⌜ free ≡ eqb (now self .out) 0 ⌝ }
+        ensures called { λ r. ⌜ Called (making-of (A·Arithmetic .setting (now (arith .entry))) (now (self .entry))) (state-of (A·Arithmetic .setting (now (arith .entry))) (now (self .entry))) (state-of (A·Arithmetic .setting (now (arith .entry))) (now (self .exit))) clear-call (told-cleared r) ⌝ }
+        ensures cells { λ r. ⌜ Clearing-leaves (A·Arithmetic .setting (now (arith .entry))) (accepted (told-cleared r)) (now (now (self .entry) .row)) (now (now (self .exit) .row)) ⌝ }
+        ensures keeps { λ _. ⌜ Keeps (A·Arithmetic .setting (now (arith .entry))) (now (self .entry)) (now (self .exit)) ⌝ }
+        ensures lender { λ _. ⌜ name (now (self .exit) .row) ≡ name (now (self .entry) .row) ⌝ }
+    {
+        if !free {
+            return Err(Refusal::QuestionOut);
+        }
+        renew(arith, self.row);
+        self.held = 0;
+        Ok(())
+    }
+
+    // The value and the error bound of the coefficient of order k. Refusals: 6, 7, 8.
+    pub fn ask(&self, arith: &mut A, k: u8) -> Result<(A::Number, A::Number), Refusal>
+        requires law { ⌜ A·Arithmetic .lawful (now arith) ⌝ }
+        requires standing { ⌜ Standing (now self) ⌝ }
+        ensures called { λ r. ⌜ Called (making-of (A·Arithmetic .setting (now (arith .entry))) (now (self .entry))) (state-of (A·Arithmetic .setting (now (arith .entry))) (now (self .entry))) (state-of (A·Arithmetic .setting (now (arith .entry))) (now (self .entry))) (ask-call k) (told-asked (A·Arithmetic .value) r) ⌝ }
+        ensures numbers { λ r. ⌜ Asked-numbers (A·Arithmetic .setting (now (arith .entry)) .meaning) (A·Arithmetic .value) r ⌝ }
+        ensures same { λ _. ⌜ A·Arithmetic .setting (now (arith .exit)) ≡ A·Arithmetic .setting (now (arith .entry)) ⌝ }
+        ensures law { λ _. ⌜ A·Arithmetic .lawful (now (arith .exit)) ⌝ }
+    {
+        self.ask_among(arith, k, self.held)
+    }
+
+    // Asks an order, where n zeros are held.
+    fn ask_among(&self, arith: &mut A, k: u8, n: u8) -> Result<(A::Number, A::Number), Refusal>
+        requires law { ⌜ A·Arithmetic .lawful (now arith) ⌝ }
+        requires standing { ⌜ Standing (now self) ⌝ }
+        requires held { ⌜ n ≡ now self .held ⌝ }
+        ensures called { λ r. ⌜ Called (making-of (A·Arithmetic .setting (now (arith .entry))) (now (self .entry))) (state-of (A·Arithmetic .setting (now (arith .entry))) (now (self .entry))) (state-of (A·Arithmetic .setting (now (arith .entry))) (now (self .entry))) (ask-call k) (told-asked (A·Arithmetic .value) r) ⌝ }
+        ensures numbers { λ r. ⌜ Asked-numbers (A·Arithmetic .setting (now (arith .entry)) .meaning) (A·Arithmetic .value) r ⌝ }
+        ensures same { λ _. ⌜ A·Arithmetic .setting (now (arith .exit)) ≡ A·Arithmetic .setting (now (arith .entry)) ⌝ }
+        ensures law { λ _. ⌜ A·Arithmetic .lawful (now (arith .exit)) ⌝ }
+    {
+        if (k as usize) > self.row.len() - 1 {
+            return Err(Refusal::OrderAboveRow);
+        }
+        if k > n {
+            return Err(Refusal::OrderAboveZeros);
+        }
+        let cell = cell_at(self.row, k as usize);
+        match close(arith, cell, n, k) {
+            Ok(coefficient) => Ok(coefficient),
+            Err(operation) => Err(Refusal::ClosingOutOfRange { operation }),
+        }
     }
 }

@@ -1,0 +1,59 @@
+-- What a call leaves at each of its exits: what the bench was made with, its standing condition, and its plain cells.
+use mathlib.Core.Path.{_≡_, refl, sym, ap, subst, _∙_}
+use mathlib.Core.Bool.{Bool, true, false}
+use mathlib.Core.List.{List, map}
+use Prim.Native.Nat.{ℕ, suc, _-_, _≤_}
+use native.Mathlib.Omega.{arith}
+use lib.ListN.{length, take, drop}
+use Rattle.std.specs.Results.{ErrBy}
+use Rattle.std.specs.declared.result.Result.{Result}
+use Rattle.std.specs.declared.result.Result.the-variants.{Ok, Err}
+use Rattle.arithmetic.specs.Meaning.{Meaning}
+use Rattle.arithmetic.specs.Setting.{Setting}
+use Rattle.coefficients.specs.Row.{Cell as Values, Trial, new-row}
+use Rattle.coefficients.specs.Closing.{Closed, close}
+use Rattle.coefficients.specs.Calls.{Making, State, Call, Answer}
+use Rattle.row.specs.declared.cell.Cell.{Cell}
+use Rattle.row.specs.Reading.{plain-cell}
+use Rattle.bench.specs.Answers.{told-refusal, told-added}
+use Rattle.bench.specs.Benches.{making-of, Standing, Called, Keeps, Addition-leaves, Clearing-leaves}
+use Rattle.bench.specs.declared.Bench.{Bench}
+use Rattle.bench.specs.declared.refusal.Refusal.{Refusal}
+
+-- a refusal that was passed up
+pub told-err : (r : Result ℕ Refusal) (x : Refusal) → ErrBy r (λ e. e ≡ x) → told-added r ≡ told-refusal x
+told-err (Ok i) x h = absurd h
+told-err (Err e) x h = ap told-refusal h
+
+pub called-as : {b : Making} {s s′ : State} {call : Call} {answer : Answer} (told : Answer) → told ≡ answer → Called b s s′ call answer → Called b s s′ call told
+called-as {b} {s} {s′} {call} told e c = subst (Called b s s′ call) (sym e) c
+
+-- a call that changes nothing
+pub keeps-all : {A N P : Type 0} (st : Setting P) (b : Bench A N P) → Standing b → Keeps st b b
+keeps-all st b h = record { making = refl; long = refl; standing = h }
+
+-- a call that changes cells and counts
+pub keeps-long : {A N P : Type 0} (st : Setting P) (b b′ : Bench A N P) → Standing b → b′ .number ≡ b .number → length (b′ .row .now) ≡ length (b .row .now) → b′ .held ≤ 64 → b′ .out ≤ 32 → Keeps st b b′
+keeps-long st b b′ h n l few out = record {
+    making = ap (λ n. record { meaning = st .meaning; bench-number = n; K = length (b′ .row .now) - 1 }) n ∙ ap (λ l. record { meaning = st .meaning; bench-number = b .number; K = l - 1 }) l;
+    long = l;
+    standing = record { some-cells = omega (arith, h .some-cells, l); few-cells = omega (arith, h .few-cells, l); few-held = few; few-out = out } }
+
+pub leaves-all : {P : Type 0} (n : ℕ) (a : Bool) (old new : List (Cell P)) → new ≡ old → Addition-leaves n a old new
+leaves-all n a old new e = record { refused = λ _. e; first = ap (take 1) e; beyond = ap (drop (suc n)) e }
+
+not-false : {Y : Type 0} → true ≡ false → Y
+not-false e = absurd (let z : _≡_ {A = ℕ} 0 1 = cc in omega arith)
+
+pub leaves-others : {P : Type 0} (n n′ : ℕ) (old new : List (Cell P)) → n ≡ n′ → take 1 new ≡ take 1 old → drop (suc n) new ≡ drop (suc n) old → Addition-leaves n′ true old new
+leaves-others n n′ old new e f h = record { refused = λ z. not-false z; first = f; beyond = ap (λ n. drop (suc n) new) (sym e) ∙ h ∙ ap (λ n. drop (suc n) old) e }
+
+pub clearing-refused : {P : Type 0} (st : Setting P) (old new : List (Cell P)) → new ≡ old → Clearing-leaves st false old new
+clearing-refused st old new e = record { refused = λ _. e; renewed = λ z. not-false (sym z) }
+
+pub clearing-done : {P : Type 0} (st : Setting P) (old new : List (Cell P)) → new ≡ map (plain-cell st) (new-row (st .meaning) (length old - 1)) → Clearing-leaves st true old new
+clearing-done st old new e = record { refused = λ z. not-false z; renewed = λ _. e }
+
+-- a closing among the zeros held
+pub closed-among : (m : Meaning) (c : Values) (n held k : ℕ) → n ≡ held → {t : Trial Closed} → t ≡ close m c n k → t ≡ close m c held k
+closed-among m c n held k e f = f ∙ ap (λ n. close m c n k) e
