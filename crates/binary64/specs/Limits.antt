@@ -18,4 +18,4 @@ Small x = magnitude binary64 x ≤ 2 ^ reach
 
 -- finite, and from 2^-900 to 2^900 in size
 abbrev pub InRange : Float → Type 0
-InRange x = (finite x ≡ true) × (Small x × (2 ^ least ≤ magnitude binary64 x))
+InRange x = (finite x ≡ true) × Small x × (2 ^ least ≤ magnitude binary64 x)

@@ -6,7 +6,7 @@ ghost use Rattle.binary64.specs.Patterns.{meaning, reads, written, admission a
 ghost use Rattle.binary64.specs.Doubles.{units};
 use arithmetic::cause::Cause;
 use crate::double::Double;
-use crate::double::zero;
+use crate::exact::zero;
 use crate::limits::HIGH_BITS;
 use crate::limits::SIGN;
 

@@ -8,6 +8,7 @@ use crate::double::Double;
 mod limits;
 mod steps;
 pub mod double;
+pub mod exact;
 pub mod sums;
 pub mod products;
 pub mod lifting;
@@ -52,27 +53,27 @@ pub impl Arithmetic for Binary64 as Binary64Arithmetic {
     }
 
     fn size(&self, a: Double) -> Double {
-        double::size(a)
+        exact::size(a)
     }
 
     fn negative(&self, a: Double) -> Double {
-        double::negative(a)
+        exact::negative(a)
     }
 
     fn at_most(&self, a: Double, b: Double) -> bool {
-        double::at_most(a, b)
+        exact::at_most(a, b)
     }
 
     fn is_in_limits(&self, a: Double) -> bool {
-        double::is_in_limits(a)
+        exact::is_in_limits(a)
     }
 
     fn zero(&self) -> Double {
-        double::zero()
+        exact::zero()
     }
 
     fn one(&self) -> Double {
-        double::one()
+        exact::one()
     }
 
     fn read(&self, p: u64) -> Double {

@@ -7,7 +7,7 @@ ghost use Rattle.arithmetic.specs.Setting.{valued, Gives};
 ghost use Rattle.binary64.specs.Patterns.{meaning};
 ghost use Rattle.binary64.specs.Doubles.{units};
 use crate::double::Double;
-use crate::double::zero;
+use crate::exact::zero;
 use crate::limits::in_range;
 use crate::limits::is_zero;
 use crate::steps;

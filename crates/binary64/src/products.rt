@@ -5,7 +5,7 @@ ghost use Rattle.arithmetic.specs.Setting.{valued, split-valued, Gives, Gives-b
 ghost use Rattle.binary64.specs.Patterns.{meaning};
 ghost use Rattle.binary64.specs.Doubles.{units};
 use crate::double::Double;
-use crate::double::zero;
+use crate::exact::zero;
 use crate::limits::in_range;
 use crate::limits::one_zero;
 use crate::steps::product_error;

@@ -1,0 +1,4 @@
+pub mod Means
+pub mod SumAnswers
+pub mod ProductAnswers
+pub mod LiftAnswers
