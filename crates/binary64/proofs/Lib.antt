@@ -2,3 +2,8 @@ pub mod Means
 pub mod SumAnswers
 pub mod ProductAnswers
 pub mod LiftAnswers
+pub mod BitOrder
+pub mod BitLimits
+pub mod NotNan
+pub mod TheMeans
+pub mod Fields

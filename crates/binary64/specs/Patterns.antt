@@ -5,8 +5,9 @@ use mathlib.Core.Bool.{Bool, cond}
 use mathlib.Core.List.{List, [], _∷_}
 use lib.Dec.{leb, eqb}
 use lib.ListN.{getD}
-use lib.IntN.{ℤ, pos, negsuc, negℤ}
+use lib.IntN.{ℤ, pos, negsuc}
 use Rattle.rounding.specs.Radix.{exponent as least-exponent}
+use Rattle.rounding.specs.Value.{signed}
 use Rattle.arithmetic.specs.Meaning.{Meaning, Admission, number, not-admitted}
 use Rattle.arithmetic.specs.Radix.{radix}
 use Rattle.arithmetic.specs.Setting.{Setting}
@@ -35,7 +36,7 @@ size b = significand b * 2 ^ (exponent b - 1)
 unfoldable pub admission : ℕ → Admission
 admission b =
     cond (eqb (exponent b) 2047) (not-admitted 1)
-    (cond (leb (size b) (2 ^ reach)) (number (cond (negative b) (negℤ (pos (size b))) (pos (size b)))) (not-admitted 2))
+    (cond (leb (size b) (2 ^ reach)) (number (signed (negative b) (size b))) (not-admitted 2))
 
 -- 0 where the pattern is not admitted
 unfoldable pub reads : ℕ → ℤ
