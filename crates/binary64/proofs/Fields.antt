@@ -138,21 +138,19 @@ pub bits-infinite : (b : ℕ) → 9218868437227405312 ≤ b % 922337203685477580
 bits-infinite b h = sym (admission-infinite b (omega arith))
 
 -- ---- reading
-pub reads-number : (b : ℕ) (z : ℤ) → number z ≡ admission b → z ≡ reads b
+reads-inside : (b : ℕ) → inside (admission b) ≡ reads b
 unfolding reads
-reads-number b z e = ap inside e ∙ agree (admission b)
+reads-inside b = agree (admission b)
   where
     agree : (a : Admission) → inside a ≡ elim a [ number z ↦ z | not-admitted c ↦ pos 0 ]
     agree (number z) = refl
     agree (not-admitted c) = refl
 
+pub reads-number : (b : ℕ) (z : ℤ) → number z ≡ admission b → z ≡ reads b
+reads-number b z e = ap inside e ∙ reads-inside b
+
 pub reads-none : (b c : ℕ) → not-admitted c ≡ admission b → pos 0 ≡ reads b
-unfolding reads
-reads-none b c e = ap inside e ∙ agree (admission b)
-  where
-    agree : (a : Admission) → inside a ≡ elim a [ number z ↦ z | not-admitted c ↦ pos 0 ]
-    agree (number z) = refl
-    agree (not-admitted c) = refl
+reads-none b c e = ap inside e ∙ reads-inside b
 
 -- the bits of a float that is a number are admitted as that number
 pub own-admission : (x : Float) → Fine binary64 reach x → number (value binary64 x) ≡ admission (toBits binary64 x)

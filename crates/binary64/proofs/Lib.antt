@@ -7,3 +7,8 @@ pub mod BitLimits
 pub mod NotNan
 pub mod TheMeans
 pub mod Fields
+pub mod Written
+pub mod TheRules
+pub mod ExactFloats
+pub mod GrainFloats
+pub mod Admitted
