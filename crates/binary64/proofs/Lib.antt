@@ -11,4 +11,3 @@ pub mod Written
 pub mod TheRules
 pub mod ExactFloats
 pub mod GrainFloats
-pub mod Admitted

@@ -34,7 +34,8 @@ pub fn plain(a: Double) -> u64
 
 // The number of a bit pattern, or the cause of its refusal.
 pub(crate) fn checked(bits: u64) -> Result<Double, Cause>
-    ensures { λ r. ⌜ admission units r ≡ admission-of bits ⌝ }
+    ensures answer { λ r. ⌜ admission units r ≡ admission-of bits ⌝ }
+    ensures number { λ r. ⌜ Admits meaning units r ⌝ }
 {
     let m = bits % SIGN;
     if m >= INFINITY_BITS {

@@ -14,11 +14,11 @@ pub(crate) const HIGH_BITS: u64 = 0x7830_0000_0000_0000;
 // the weight of the sign
 pub(crate) const SIGN: u64 = 0x8000_0000_0000_0000;
 
-// Whether a finite x is at most 2^900 in size.
+// Whether x, which is no NaN, is finite and at most 2^900 in size.
 pub(crate) fn at_most_high(x: f64) -> bool
-    requires { ⌜ finite x ≡ true ⌝ }
-    ensures yes { λ r. ⌜ (r ≡ true → Small x) ⌝ }
-    ensures no { λ r. ⌜ (r ≡ false → Small x → ⊥) ⌝ }
+    requires { ⌜ T (not (isNan x)) ⌝ }
+    ensures yes { λ r. ⌜ (r ≡ true → (finite x ≡ true) × Small x) ⌝ }
+    ensures no { λ r. ⌜ (r ≡ false → finite x ≡ true → Small x → ⊥) ⌝ }
 {
     x.to_bits() % SIGN <= HIGH_BITS
 }

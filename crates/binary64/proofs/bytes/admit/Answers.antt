@@ -1,11 +1,8 @@
 -- The bytes are joined, and the pattern admitted.
 use mathlib.Core.Path.{_≡_, sym, ap, _∙_}
 use Rattle.binary64.specs.Patterns.{admission}
-use Rattle.binary64.specs.Doubles.{units}
-use Rattle.binary64.proofs.Admitted.{admits}
 use Rattle.binary64.proofs.TheRules.{admit-is}
-use borrow.Author.Needs.{needs}
 use Rattle.binary64.proofs.bytes.admit.Needs as need
 
 pub returns : need.returns
-returns c = record { answer = c .checked .ensures ∙ ap admission (c .from-be-bytes .ensures) ∙ sym (admit-is _); number = admits units (c .checked .result) (c .from-be-bytes .result) (c .checked .ensures) }
+returns c = record { answer = c .checked .ensures .answer ∙ ap admission (c .from-be-bytes .ensures) ∙ sym (admit-is _); number = c .checked .ensures .number }

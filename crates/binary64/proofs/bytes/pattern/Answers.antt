@@ -2,7 +2,6 @@
 use mathlib.Core.Path.{_≡_, sym, ap, _∙_}
 use Rattle.binary64.specs.Patterns.{bytes}
 use Rattle.binary64.proofs.TheRules.{pattern-is}
-use borrow.Author.Needs.{needs}
 use Rattle.binary64.proofs.bytes.pattern.Needs as need
 
 pub returns : need.returns
