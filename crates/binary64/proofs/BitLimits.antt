@@ -7,12 +7,12 @@ use native.Mathlib.Nat.{mod-lt, lt-of-not-le, le-antisymm}
 use native.Mathlib.Decide.{decLe}
 use native.Mathlib.Omega.{arith}
 use lib.Dec.{T, lit<, lit≤, leb, leb→le, le→leb}
-use lib.IntN.{ℤ, pos}
+use lib.IntN.{ℤ}
 use lib.Ieee.{Float, nan, inf, fin, binary64, size, fits, hid, top, toBits, isNan}
 use lib.Ieee.Bits.{toBits-lt}
 use lib.Ieee.Scale.{finite}
 use Rattle.std.specs.Floats.{withSign}
-use Rattle.rounding.specs.Value.{value, magnitude}
+use Rattle.rounding.specs.Value.{magnitude}
 use Rattle.rounding.proofs.BinaryNearest.{Rep}
 use Rattle.rounding.proofs.Floats.{Held, value-rep}
 use Rattle.rounding.proofs.Compare.{abs-held, abs-value}
@@ -33,7 +33,7 @@ pub bits-of : (t s : Bool) (m : ℕ) (e : ℤ) → toBits binary64 (fin t m e) �
 unfolding toBits magnitude
 bits-of t s m e = refl
 
-pub low-bits : (x : Float) → Held binary64 x → toBits binary64 x % 9223372036854775808 ≡ code 53 (magnitude binary64 x)
+low-bits : (x : Float) → Held binary64 x → toBits binary64 x % 9223372036854775808 ≡ code 53 (magnitude binary64 x)
 low-bits nan h = absurd (h .1)
 low-bits (inf s) h = absurd (h .1)
 low-bits (fin s m e) h =
@@ -83,11 +83,11 @@ high-out (fin s m e) f n h = (refl, go (decLe (magnitude binary64 (fin s m e)) (
     go (yes l) = l
     go (no l) = absurd (apart (code 53 (magnitude binary64 (fin s m e))) 8660422083433463808 (above 53 1974 (magnitude binary64 (fin s m e)) (lit< tt) (lit≤ tt) (digits-of (fin s m e) (f, tt)) (lt-of-not-le l)) (subst (λ (y : ℕ). y ≤ 8660422083433463808) (low-bits (fin s m e) (f, tt)) h))
 
-pub low-in : (x : Float) → T (fits binary64 x) → finite x ≡ true → 2 ^ least ≤ magnitude binary64 x → 553942754166571008 ≤ toBits binary64 x % 9223372036854775808
+low-in : (x : Float) → T (fits binary64 x) → finite x ≡ true → 2 ^ least ≤ magnitude binary64 x → 553942754166571008 ≤ toBits binary64 x % 9223372036854775808
 unfolding least
 low-in x f n l = subst (λ (y : ℕ). 553942754166571008 ≤ y) (sym (low-bits x (held binary64 x f n))) (at-least 53 174 (magnitude binary64 x) (lit< tt) (lit≤ tt) l)
 
-pub low-out : (x : Float) → T (fits binary64 x) → finite x ≡ true → 553942754166571008 ≤ toBits binary64 x % 9223372036854775808 → 2 ^ least ≤ magnitude binary64 x
+low-out : (x : Float) → T (fits binary64 x) → finite x ≡ true → 553942754166571008 ≤ toBits binary64 x % 9223372036854775808 → 2 ^ least ≤ magnitude binary64 x
 unfolding least
 low-out x f n h = go (decLe (2 ^ 174) (magnitude binary64 x))
   where
@@ -95,10 +95,10 @@ low-out x f n h = go (decLe (2 ^ 174) (magnitude binary64 x))
     go (yes l) = l
     go (no l) = absurd (apart 553942754166571008 (code 53 (magnitude binary64 x)) (below 53 174 (magnitude binary64 x) (lit< tt) (lit≤ tt) (lt-of-not-le l)) (subst (λ (y : ℕ). 553942754166571008 ≤ y) (low-bits x (held binary64 x f n)) h))
 
-pub range-in : (x : Float) → T (fits binary64 x) → T (not (isNan x)) → 553942754166571008 ≤ toBits binary64 x % 9223372036854775808 → toBits binary64 x % 9223372036854775808 ≤ 8660422083433463808 → InRange x
+range-in : (x : Float) → T (fits binary64 x) → T (not (isNan x)) → 553942754166571008 ≤ toBits binary64 x % 9223372036854775808 → toBits binary64 x % 9223372036854775808 ≤ 8660422083433463808 → InRange x
 range-in x f n l h = let t = high-out x f n h in (t .0, t .1, low-out x f (t .0) l)
 
-pub range-out : (x : Float) → T (fits binary64 x) → InRange x → (553942754166571008 ≤ toBits binary64 x % 9223372036854775808) × (toBits binary64 x % 9223372036854775808 ≤ 8660422083433463808)
+range-out : (x : Float) → T (fits binary64 x) → InRange x → (553942754166571008 ≤ toBits binary64 x % 9223372036854775808) × (toBits binary64 x % 9223372036854775808 ≤ 8660422083433463808)
 range-out x f (n, s, l) = (low-in x f n l, high-in x f n s)
 
 once-in : (v : ℕ) → v < 9223372036854775808 → leb ((v + 17892801319542980608) % 18446744073709551616) 8106479329266892800 ≡ true → (553942754166571008 ≤ v) × (v ≤ 8660422083433463808)

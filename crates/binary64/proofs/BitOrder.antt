@@ -1,7 +1,7 @@
 -- Without the sign, the bits of floats are in the order of their sizes. For a significand of p digits, n units have the bits
 -- (size n − p) · 2^(p−1) + n / 2^(size n − p), where size counts binary digits: the digits that are dropped give the exponent, and
 -- the kept ones the rest. So a power 2^c has the bits (c − p + 2) · 2^(p−1), and what is below or above it has fewer or more.
-use mathlib.Core.Path.{_≡_, refl, sym, ap, _∙_, subst}
+use mathlib.Core.Path.{_≡_, sym, ap, _∙_, subst}
 use Prim.Native.Nat.{ℕ, zero, suc, _+_, _-_, _*_, _/_, _^_, _≤_, _<_}
 use native.Mathlib.Nat.{le-trans, mul-le-mul-right, mul-div-cancel, le-div-iff-mul-le, lt-of-mul-lt-mul-right, mul-assoc, pow-succ'}
 use native.Mathlib.Decide.{decLe}

@@ -1,15 +1,15 @@
 -- What is exact on floats: one, the test for zero, the absolute value by clearing the sign's bit, the negative, and comparisons.
 use mathlib.Core.Path.{_≡_, refl, sym, ap, _∙_, subst}
 use mathlib.Core.Bool.{Bool, true, false, not, cond, _&&_, _||_, Bool·beq}
-use Prim.Native.Nat.{ℕ, zero, suc, _+_, _-_, _*_, _/_, _%_, _^_, _≤_, _<_}
+use Prim.Native.Nat.{ℕ, zero, suc, _+_, _-_, _*_, _%_, _^_, _≤_, _<_}
 use native.Mathlib.Nat.{le-trans, le-of-eq, mul-pos, mul-one, zero-mul, lt-irrefl}
 use native.Mathlib.Omega.{arith}
 use lib.Dec.{T, lit≤, leb, ltb, eqb, eqb→eq}
 use lib.Pow.{pow-pos}
-use lib.IntN.{ℤ, pos, negsuc, negℤ, natAbs}
+use lib.IntN.{ℤ, pos, negsuc, natAbs}
 use lib.Signed.{ltZ, leZ}
 use lib.Ieee.{Float, nan, inf, fin, Format, binary64, low, up, down, neg, fits, eq, le, level, ofBits, toBits}
-use lib.Ieee.Bits.{ofBits-fits, ofBits-toBits, toBits-lt}
+use lib.Ieee.Bits.{ofBits-fits, ofBits-toBits}
 use lib.Ieee.Fits.{down-pos, neg-fits}
 use lib.Ieee.Scale.{finite}
 use Rattle.std.proofs.shelf.Ways.{tells}
@@ -18,11 +18,10 @@ use Rattle.integers.proofs.Tests.{leb-yes, leb-no, eqb-no}
 use Rattle.rounding.specs.Value.{signed, value, magnitude}
 use Rattle.rounding.proofs.Floats.{Held, own, value-neg}
 use Rattle.rounding.proofs.Compare.{le-value}
-use Rattle.arithmetic.specs.Meaning.{Number}
 use Rattle.arithmetic.specs.Operations.{in-limits}
 use Rattle.binary64.specs.Limits.{reach, least, InRange}
 use Rattle.binary64.specs.Patterns.{meaning, exponent, size, significand, negative}
-use Rattle.binary64.proofs.Means.{Fine, held, abs-value, at-most, at-least, large-of}
+use Rattle.binary64.proofs.Means.{Fine, held, size-signed, abs-value, at-most, at-least, large-of}
 use Rattle.binary64.proofs.TheMeans.{means}
 use Rattle.binary64.proofs.BitLimits.{high-in}
 use Rattle.binary64.proofs.Fields.{bits-fine, value-by-fields}
@@ -76,11 +75,6 @@ size-cut b =
     twice b = omega arith
     low-part : (b : ℕ) → b % 9223372036854775808 % 4503599627370496 ≡ b % 4503599627370496
     low-part b = omega arith
-
-size-signed : (s : Bool) (n : ℕ) → natAbs (signed s n) ≡ n
-size-signed true zero = refl
-size-signed true (suc n) = refl
-size-signed false n = refl
 
 module _ (x : Float) (X : Fine binary64 reach x) where
   abbrev bits : ℕ

@@ -2,13 +2,12 @@
 -- say; so the tests of the bits without the sign decide how it is admitted.
 use mathlib.Core.Path.{_≡_, refl, sym, ap, _∙_, subst}
 use mathlib.Core.Bool.{Bool, true, false, not, cond}
-use Prim.Native.Nat.{ℕ, zero, suc, _+_, _-_, _*_, _/_, _%_, _^_, _≤_, _<_}
-use native.Mathlib.Nat.{lt-irrefl}
+use Prim.Native.Nat.{ℕ, zero, suc, _+_, _-_, _*_, _%_, _^_, _≤_, _<_}
 use native.Mathlib.Omega.{arith}
 use lib.Dec.{T, leb, eqb, leb→le, eqb→eq}
 use lib.Arith.{le→nltb}
-use lib.IntN.{ℤ, pos, negℤ, natAbs}
-use lib.Ieee.{Float, nan, inf, fin, binary64, odd, ofFields, ofBits, toBits, nanBits, isNan, fits}
+use lib.IntN.{ℤ, pos, natAbs}
+use lib.Ieee.{Float, nan, inf, fin, binary64, odd, ofFields, ofBits, toBits, nanBits}
 use lib.Ieee.Bits.{nanBits-above, nanBits-is, ofBits-fits, ofBits-toBits, toBits-ofBits, toBits-lt}
 use lib.Ieee.Exact.{HasValue, odd-sign}
 use lib.Ieee.Scale.{finite}
@@ -16,9 +15,9 @@ use Rattle.integers.proofs.Tests.{leb-yes, leb-no, eqb-no}
 use Rattle.rounding.specs.Value.{signed, value, magnitude}
 use Rattle.rounding.proofs.Floats.{value-is}
 use Rattle.arithmetic.specs.Meaning.{Admission, number, not-admitted, Number}
-use Rattle.binary64.specs.Limits.{reach, Small}
+use Rattle.binary64.specs.Limits.{reach}
 use Rattle.binary64.specs.Patterns.{meaning, negative, exponent, fraction, significand, size, admission, reads}
-use Rattle.binary64.proofs.Means.{Fine, abs-value}
+use Rattle.binary64.proofs.Means.{Fine, size-signed, abs-value}
 use Rattle.binary64.proofs.TheMeans.{is-number}
 use Rattle.binary64.proofs.BitLimits.{high-in, high-out}
 
@@ -46,16 +45,11 @@ has-finite nan s a c h = absurd h
 has-finite (inf t) s a c h = absurd h
 has-finite (fin t m e) s a c h = refl
 
-pub finite-by-fields : (b : ℕ) → (exponent b ≡ 2047 → ⊥) → finite (ofBits binary64 b) ≡ true
+finite-by-fields : (b : ℕ) → (exponent b ≡ 2047 → ⊥) → finite (ofBits binary64 b) ≡ true
 finite-by-fields b h = has-finite (ofBits binary64 b) (negative b) (size b) (2 ^ 1074) (bits-value b h)
 
-size-of-signed : (s : Bool) (n : ℕ) → natAbs (signed s n) ≡ n
-size-of-signed true zero = refl
-size-of-signed true (suc n) = refl
-size-of-signed false n = refl
-
-pub size-by-fields : (b : ℕ) → (exponent b ≡ 2047 → ⊥) → magnitude binary64 (ofBits binary64 b) ≡ size b
-size-by-fields b h = sym (abs-value binary64 (ofBits binary64 b)) ∙ ap natAbs (value-by-fields b h) ∙ size-of-signed (negative b) (size b)
+size-by-fields : (b : ℕ) → (exponent b ≡ 2047 → ⊥) → magnitude binary64 (ofBits binary64 b) ≡ size b
+size-by-fields b h = sym (abs-value binary64 (ofBits binary64 b)) ∙ ap natAbs (value-by-fields b h) ∙ size-signed (negative b) (size b)
 
 -- ---- admission
 abbrev inside : Admission → ℤ
@@ -87,21 +81,15 @@ admission-infinite b e = ap (λ (x : ℕ). cond (eqb x 2047) (not-admitted 1) (c
 pub admission-number : (b : ℕ) (a : ℤ) → admission b ≡ number a → Number meaning a
 admission-number b a e = go (eqb (exponent b) 2047) (leb (size b) (2 ^ reach)) refl refl
   where
+    other : eqb (exponent b) 2047 ≡ false → exponent b ≡ 2047 → ⊥
+    other p h = subst T (sym (ap (λ (x : ℕ). eqb x 2047) h) ∙ p) tt
     go : (t u : Bool) → eqb (exponent b) 2047 ≡ t → leb (size b) (2 ^ reach) ≡ u → Number meaning a
-    go true u p q = absurd (subst Some-number (sym e ∙ admission-infinite b (from-eqb p)) tt)
-      where
-        from-eqb : eqb (exponent b) 2047 ≡ true → exponent b ≡ 2047
-        from-eqb p = eqb→eq (exponent b) 2047 (subst T (sym p) tt)
+    go true u p q = absurd (subst Some-number (sym e ∙ admission-infinite b (eqb→eq (exponent b) 2047 (subst T (sym p) tt))) tt)
     go false true p q =
         let s = leb→le (size b) (2 ^ reach) (subst T (sym q) tt) in
-        subst (Number meaning) (ap inside (sym (admission-yes b (other p) s) ∙ e)) (is-number (ofBits binary64 b) (ofBits-fits binary64 b, finite-by-fields b (other p), subst (λ (n : ℕ). n ≤ 2 ^ reach) (sym (size-by-fields b (other p))) s))
-      where
-        other : eqb (exponent b) 2047 ≡ false → exponent b ≡ 2047 → ⊥
-        other p h = subst T (sym (ap (λ (x : ℕ). eqb x 2047) h) ∙ p) tt
+        subst (Number meaning) (ap inside (sym (admission-yes b (other p) s) ∙ e))
+        (is-number (ofBits binary64 b) (ofBits-fits binary64 b, finite-by-fields b (other p), subst (λ (n : ℕ). n ≤ 2 ^ reach) (sym (size-by-fields b (other p))) s))
     go false false p q = absurd (subst Some-number (sym e ∙ admission-large b (other p) (λ s. subst T (sym (leb-yes (size b) (2 ^ reach) s) ∙ q) tt)) tt)
-      where
-        other : eqb (exponent b) 2047 ≡ false → exponent b ≡ 2047 → ⊥
-        other p h = subst T (sym (ap (λ (x : ℕ). eqb x 2047) h) ∙ p) tt
 
 -- ---- by the bits without the sign
 not-ones : (b : ℕ) → b % 9223372036854775808 < 9218868437227405312 → exponent b ≡ 2047 → ⊥

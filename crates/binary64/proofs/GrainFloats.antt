@@ -7,7 +7,7 @@ use native.Mathlib.Omega.{arith}
 use lib.Dec.{T, lit<}
 use lib.Pow.{pow-pos}
 use lib.IntN.{ℤ, pos, _*ℤ_, natAbs}
-use lib.Ieee.{Float, nan, inf, fin, binary64, fits, mul, sub, div, ofInt, ofBits, isNan}
+use lib.Ieee.{Float, fin, binary64, fits, mul, sub, ofInt, ofBits, isNan}
 use lib.Ieee.Fits.{mul-fits}
 use lib.Ieee.Scale.{finite}
 use Rattle.rounding.specs.Value.{value, magnitude}
@@ -19,7 +19,7 @@ use Rattle.arithmetic.specs.Operations.{grain}
 use Rattle.binary64.specs.Limits.{reach, least}
 use Rattle.binary64.specs.Patterns.{meaning}
 use Rattle.binary64.specs.Steps.{grain-steps, lift-steps}
-use Rattle.binary64.proofs.Means.{Fine, held, true-of, abs-value, small-of}
+use Rattle.binary64.proofs.Means.{Fine, true-of, abs-value, small-of}
 use Rattle.binary64.proofs.TheMeans.{means}
 use Rattle.binary64.proofs.TheRules.{rules}
 use Rattle.binary64.proofs.NotNan.{div-no-nan}

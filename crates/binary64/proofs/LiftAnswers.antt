@@ -1,13 +1,11 @@
 -- Lifts of floats answer what the definitions say: 1 − k u is exact as a float, so the one division is the one rounding.
 use mathlib.Core.Path.{_≡_, refl, sym, ap, _∙_, subst}
-use mathlib.Core.Bool.{true}
 use mathlib.Core.Option.{none, some}
-use Prim.Native.Nat.{ℕ, _-_, _*_, _^_, _≤_, _<_}
+use Prim.Native.Nat.{ℕ, _-_, _*_, _^_, _≤_}
 use native.Mathlib.Nat.{zero-mul}
 use lib.Dec.{T}
-use lib.IntN.{ℤ, pos, _*ℤ_, natAbs}
+use lib.IntN.{ℤ, pos, _*ℤ_}
 use lib.Ieee.{Float, Format, prec}
-use lib.Ieee.Scale.{finite}
 use Rattle.rounding.specs.Value.{value, magnitude}
 use Rattle.rounding.proofs.Model.{rounding}
 use Rattle.rounding.proofs.FloatRounding.{Rounds}

@@ -8,7 +8,7 @@ use native.Mathlib.Nat.{le-trans, le-of-eq, mul-one, lt-of-lt-of-le, lt-irrefl}
 use native.Mathlib.Omega.{arith}
 use lib.Dec.{T, lit<}
 use lib.Pow.{pow-pos, pow-lt}
-use lib.IntN.{ℤ, pos, negsuc, negℤ, natAbs}
+use lib.IntN.{ℤ, pos, negsuc, natAbs}
 use lib.Ieee.{Float, nan, inf, fin, Format, prec, emax, low, up, down, fits}
 use lib.Ieee.Scale.{finite, overflow}
 use borrow.Author.Differences as D
@@ -51,7 +51,7 @@ true-of false t = absurd t
 pub held : (f : Format) (x : Float) → T (fits f x) → finite x ≡ true → Held f x
 held f x h e = (h, subst T (sym e) tt)
 
-size-signed : (s : Bool) (n : ℕ) → natAbs (signed s n) ≡ n
+pub size-signed : (s : Bool) (n : ℕ) → natAbs (signed s n) ≡ n
 size-signed true zero = refl
 size-signed true (suc n) = refl
 size-signed false n = refl

@@ -1,5 +1,5 @@
 -- What is no NaN: a finite float, and a product or a quotient of finite floats, since each is what `round` gives.
-use mathlib.Core.Path.{_≡_, refl, sym, ap, _∙_, subst}
+use mathlib.Core.Path.{_≡_, sym, ap, _∙_, subst}
 use mathlib.Core.Bool.{Bool, true, false, not, cond}
 use Prim.Native.Nat.{ℕ, zero, suc, _+_, _*_, _/_, _^_}
 use native.Mathlib.Nat.{zero-mul, zero-div}

@@ -2,7 +2,6 @@
 -- there; a product out of range is refused unless a factor, and so the exact product, is zero.
 use mathlib.Core.Path.{_≡_, refl, sym, ap, _∙_, subst}
 use mathlib.Core.Logic.{_⊎_, inl, inr}
-use mathlib.Core.Bool.{true}
 use mathlib.Core.Option.{none, some}
 use Prim.Native.Nat.{ℕ, zero, suc, _*_, _^_, _≤_, _<_}
 use native.Mathlib.Nat.{mul-pos, lt-irrefl, zero-mul, mul-zero}
@@ -10,7 +9,7 @@ use native.Mathlib.Omega.{arith}
 use lib.Dec.{T}
 use lib.Pow.{pow-pos}
 use lib.IntN.{ℤ, pos, _+ℤ_, _*ℤ_, natAbs}
-use lib.Ieee.{Float, Format, prec, low, mul, fits}
+use lib.Ieee.{Float, Format, prec, low, mul}
 use lib.Ieee.Fits.{mul-fits, sub-fits}
 use lib.Ieee.Scale.{finite}
 use Rattle.integers.proofs.Integers.{abs-mul}

@@ -1,13 +1,13 @@
 -- Sums of floats answer what the definitions say. The rounded sum of two numbers is finite, and TwoSum's second float is the
 -- exact error: both are facts of rounding; the definitions then only ask for the size of the rounded sum.
-use mathlib.Core.Path.{_≡_, refl, sym, ap, _∙_, subst}
+use mathlib.Core.Path.{_≡_, sym, ap, _∙_, subst}
 use mathlib.Core.Bool.{true}
 use mathlib.Core.Option.{none, some}
 use Prim.Native.Nat.{ℕ, _^_, _≤_}
 use native.Mathlib.Nat.{le-trans, le-of-eq}
 use lib.Dec.{T}
-use lib.IntN.{ℤ, _+ℤ_}
-use lib.Ieee.{Float, Format, add, fits}
+use lib.IntN.{_+ℤ_}
+use lib.Ieee.{Float, Format, add}
 use lib.Ieee.Fits.{add-fits}
 use lib.Ieee.Scale.{finite}
 use Rattle.rounding.specs.Value.{value, magnitude}

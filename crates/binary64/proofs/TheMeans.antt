@@ -1,7 +1,7 @@
 -- The meaning of binary64 is that of a binary format: the rounding of the definitions in radix 2 is the rounding of the floats,
 -- and the limits leave room, by closed comparisons.
-use mathlib.Core.Path.{_≡_, refl}
-use Prim.Native.Nat.{ℕ, _^_}
+use mathlib.Core.Path.{refl}
+use Prim.Native.Nat.{_^_}
 use lib.Dec.{lit<, lit≤}
 use lib.Ieee.{Float, binary64}
 use Rattle.rounding.specs.Value.{value}

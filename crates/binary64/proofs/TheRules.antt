@@ -1,9 +1,8 @@
 -- The rules of binary64: those of 53 digits in radix 2, with what its patterns are admitted as.
-use mathlib.Core.Path.{_≡_, refl, sym, ap, _∙_}
+use mathlib.Core.Path.{_≡_, refl}
 use mathlib.Core.List.{List}
 use Prim.Native.Nat.{ℕ, _^_}
 use lib.IntN.{ℤ}
-use Rattle.arithmetic.specs.Meaning.{Admission, number, Number}
 use Rattle.arithmetic.specs.Rules.{Rules}
 use Rattle.arithmetic.proofs.RadixRules.{radix-rules}
 use Rattle.arithmetic.proofs.Formats.{lawful-binary64}

@@ -2,16 +2,15 @@
 -- float, its bits are those that the definition writes, and they are admitted as z.
 use mathlib.Core.Path.{_≡_, refl, sym, ap, _∙_, subst}
 use mathlib.Core.Bool.{Bool, true, false, not, cond, _&&_}
-use mathlib.Core.List.{List}
-use Prim.Native.Nat.{ℕ, zero, suc, _+_, _-_, _*_, _/_, _%_, _^_, _≤_, _<_, zero-le}
+use Prim.Native.Nat.{ℕ, zero, suc, _+_, _-_, _*_, _/_, _^_, _≤_, _<_, zero-le}
 use native.Mathlib.Nat.{le-trans, zero-add, mul-pos, mul-one, zero-mul, lt-irrefl, mul-comm, pow-succ'}
 use native.Mathlib.Omega.{arith}
 use lib.Dec.{T, lit<, ltb, ltb→lt, lt→ltb, nltb→le}
 use lib.Pow.{pow-pos, pow-mono}
 use lib.IntN.{ℤ, pos, negsuc, negℤ, _+ℤ_, natAbs}
-use lib.Ieee.{Float, nan, inf, fin, Format, binary64, prec, low, up, down, top, add, fits, ofBits, toBits, isNan, sum, round, size}
+use lib.Ieee.{Float, nan, inf, fin, binary64, low, up, down, top, add, fits, ofBits, toBits, isNan, sum, round, size}
 use lib.Ieee.Bits.{ofBits-fits, toBits-lt}
-use lib.Ieee.Digits.{size-lt, size-le}
+use lib.Ieee.Digits.{size-le}
 use lib.Ieee.Exact.{HasValue}
 use lib.Ieee.Fits.{down-pos, add-fits, round-fits}
 use lib.Ieee.Scale.{finite, round-same, grid}
@@ -33,7 +32,7 @@ use Rattle.binary64.proofs.BitLimits.{bits-of}
 use Rattle.binary64.proofs.Fields.{own-admission, reads-number}
 use Rattle.binary64.proofs.NotNan.{finite-no-nan}
 
-unfoldable pub float-of : ℤ → Float
+unfoldable float-of : ℤ → Float
 float-of (pos n) = round binary64 false n (2 ^ low binary64)
 float-of (negsuc n) = round binary64 true (suc n) (2 ^ low binary64)
 
@@ -154,7 +153,7 @@ bits-round s n f v =
     bits-signed x s (grid binary64 n (2 ^ low binary64)) (2 ^ low binary64) (round-val binary64 s n (2 ^ low binary64) (round-under binary64 s n (2 ^ low binary64) (subst T (sym f) tt)))
     ∙ ap (λ (k : ℕ). cond s (top binary64) 0 + code 53 k) v ∙ ap (λ (k : ℕ). cond s (top binary64) 0 + k) (sym (unsigned-is n))
 
-pub written-is : (z : ℤ) → finite (float-of z) ≡ true → value binary64 (float-of z) ≡ z → toBits binary64 (float-of z) ≡ written z
+written-is : (z : ℤ) → finite (float-of z) ≡ true → value binary64 (float-of z) ≡ z → toBits binary64 (float-of z) ≡ written z
 unfolding float-of written
 written-is (pos n) f v = bits-round false n f (sym (abs-value binary64 (round binary64 false n (2 ^ low binary64))) ∙ ap natAbs v) ∙ zero-add (unsigned n)
 written-is (negsuc n) f v = bits-round true (suc n) f (sym (abs-value binary64 (round binary64 true (suc n) (2 ^ low binary64))) ∙ ap natAbs v)

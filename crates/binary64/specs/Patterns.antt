@@ -15,13 +15,13 @@ use Rattle.binary64.specs.Limits.{least, reach}
 
 -- ---- the fields of a bit pattern
 abbrev pub negative : ℕ → Bool
-negative b = leb 9223372036854775808 b
+negative b = leb (2 ^ 63) b
 
 abbrev pub exponent : ℕ → ℕ
-exponent b = b % 9223372036854775808 / 4503599627370496
+exponent b = b % 2 ^ 63 / 2 ^ 52
 
 abbrev pub fraction : ℕ → ℕ
-fraction b = b % 4503599627370496
+fraction b = b % 2 ^ 52
 
 -- the significand: a leading 1 before the fraction, but not where the exponent's field is 0
 unfoldable pub significand : ℕ → ℕ
@@ -51,14 +51,14 @@ unsigned n = let e : ℕ = least-exponent 2 n n (2 ^ 53) in e * 2 ^ 52 + n / 2 ^
 -- zero has no sign: its pattern is 0
 unfoldable pub written : ℤ → ℕ
 written (pos n) = unsigned n
-written (negsuc n) = 9223372036854775808 + unsigned (suc n)
+written (negsuc n) = 2 ^ 63 + unsigned (suc n)
 
 -- ---- eight bytes, the highest first
 abbrev pub joined : List ℕ → ℕ
-joined bs = getD bs 0 0 * 72057594037927936 + getD bs 1 0 * 281474976710656 + getD bs 2 0 * 1099511627776 + getD bs 3 0 * 4294967296 + getD bs 4 0 * 16777216 + getD bs 5 0 * 65536 + getD bs 6 0 * 256 + getD bs 7 0
+joined bs = getD bs 0 0 * 2 ^ 56 + getD bs 1 0 * 2 ^ 48 + getD bs 2 0 * 2 ^ 40 + getD bs 3 0 * 2 ^ 32 + getD bs 4 0 * 2 ^ 24 + getD bs 5 0 * 2 ^ 16 + getD bs 6 0 * 256 + getD bs 7 0
 
 abbrev pub bytes : ℕ → List ℕ
-bytes b = (b / 72057594037927936 % 256) ∷ (b / 281474976710656 % 256) ∷ (b / 1099511627776 % 256) ∷ (b / 4294967296 % 256) ∷ (b / 16777216 % 256) ∷ (b / 65536 % 256) ∷ (b / 256 % 256) ∷ (b % 256) ∷ []
+bytes b = (b / 2 ^ 56 % 256) ∷ (b / 2 ^ 48 % 256) ∷ (b / 2 ^ 40 % 256) ∷ (b / 2 ^ 32 % 256) ∷ (b / 2 ^ 24 % 256) ∷ (b / 2 ^ 16 % 256) ∷ (b / 256 % 256) ∷ (b % 256) ∷ []
 
 unfoldable pub admitted : List ℕ → Admission
 admitted bs = admission (joined bs)

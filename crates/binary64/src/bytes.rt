@@ -14,7 +14,7 @@ use crate::limits::SIGN;
 const INFINITY_BITS: u64 = 0x7ff0_0000_0000_0000;
 
 // The number of a bit pattern; 0 where it is none.
-pub fn read(bits: u64) -> Double
+pub(crate) fn read(bits: u64) -> Double
     ensures answer { λ r. ⌜ units r ≡ reads bits ⌝ }
     ensures number { λ r. ⌜ Number meaning (units r) ⌝ }
 {
@@ -25,7 +25,7 @@ pub fn read(bits: u64) -> Double
 }
 
 // The one bit pattern of a number: adding 0 turns minus zero into zero.
-pub fn plain(a: Double) -> u64
+pub(crate) fn plain(a: Double) -> u64
     ensures answer { λ r. ⌜ r ≡ written (units a) ⌝ }
     ensures back { λ r. ⌜ reads r ≡ units a ⌝ }
 {
@@ -48,7 +48,7 @@ pub(crate) fn checked(bits: u64) -> Result<Double, Cause>
 }
 
 // The number that eight bytes are admitted as, or the cause of their refusal.
-pub fn admit(bytes: &[u8; 8]) -> Result<Double, Cause>
+pub(crate) fn admit(bytes: &[u8; 8]) -> Result<Double, Cause>
     ensures answer { λ r. ⌜ admission units r ≡ meaning .admit (now (bytes .entry)) ⌝ }
     ensures number { λ r. ⌜ Admits meaning units r ⌝ }
 {
@@ -56,7 +56,7 @@ pub fn admit(bytes: &[u8; 8]) -> Result<Double, Cause>
 }
 
 // The eight bytes of a number.
-pub fn pattern(a: Double) -> [u8; 8]
+pub(crate) fn pattern(a: Double) -> [u8; 8]
     ensures { λ r. ⌜ r ≡ meaning .pattern (units a) ⌝ }
 {
     plain(a).to_be_bytes()

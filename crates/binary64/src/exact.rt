@@ -11,14 +11,14 @@ use crate::limits::SIGN;
 use crate::limits::in_range;
 use crate::limits::is_zero;
 
-pub fn zero() -> Double
+pub(crate) fn zero() -> Double
     ensures answer { λ r. ⌜ units r ≡ pos 0 ⌝ }
     ensures number { λ r. ⌜ Number meaning (units r) ⌝ }
 {
     Double { x: 0.0 }
 }
 
-pub fn one() -> Double
+pub(crate) fn one() -> Double
     ensures answer { λ r. ⌜ units r ≡ pos (meaning .Q) ⌝ }
     ensures number { λ r. ⌜ Number meaning (units r) ⌝ }
 {
@@ -26,14 +26,14 @@ pub fn one() -> Double
 }
 
 // The absolute value: the sign's bit is cleared.
-pub fn size(a: Double) -> Double
+pub(crate) fn size(a: Double) -> Double
     ensures answer { λ r. ⌜ units r ≡ size-of (units a) ⌝ }
     ensures number { λ r. ⌜ Number meaning (units r) ⌝ }
 {
     Double { x: f64::from_bits(a.x.to_bits() % SIGN) }
 }
 
-pub fn negative(a: Double) -> Double
+pub(crate) fn negative(a: Double) -> Double
     ensures answer { λ r. ⌜ units r ≡ negℤ (units a) ⌝ }
     ensures number { λ r. ⌜ Number meaning (units r) ⌝ }
 {
@@ -41,14 +41,14 @@ pub fn negative(a: Double) -> Double
 }
 
 // Whether a is at most b.
-pub fn at_most(a: Double, b: Double) -> bool
+pub(crate) fn at_most(a: Double, b: Double) -> bool
     ensures { λ r. ⌜ r ≡ leZ (units a) (units b) ⌝ }
 {
     a.x <= b.x
 }
 
 // Whether a is zero, or from 2^-900 to 2^900 in size.
-pub fn is_in_limits(a: Double) -> bool
+pub(crate) fn is_in_limits(a: Double) -> bool
     ensures { λ r. ⌜ r ≡ in-limits meaning (units a) ⌝ }
 {
     in_range(a.x) || is_zero(a.x)

@@ -5,14 +5,14 @@ use arithmetic::Arithmetic;
 use arithmetic::cause::Cause;
 use crate::double::Double;
 
-mod limits;
-mod steps;
 pub mod double;
-pub mod exact;
-pub mod sums;
-pub mod products;
-pub mod lifting;
-pub mod bytes;
+mod bytes;
+mod exact;
+mod lifting;
+mod limits;
+mod products;
+mod steps;
+mod sums;
 
 #[derive(Clone, Copy)]
 pub struct Binary64;

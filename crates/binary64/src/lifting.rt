@@ -13,7 +13,7 @@ use crate::limits::is_zero;
 use crate::steps;
 
 // The grain k u, which is exact.
-pub fn grain(k: u8) -> Double
+pub(crate) fn grain(k: u8) -> Double
     requires few { ⌜ k ≤ 192 ⌝ }
     ensures answer { λ r. ⌜ units r ≡ grain-of meaning k ⌝ }
     ensures number { λ r. ⌜ Number meaning (units r) ⌝ }
@@ -22,7 +22,7 @@ pub fn grain(k: u8) -> Double
 }
 
 // a lifted by k: a / (1 - k u), rounded once, since 1 - k u is exact.
-pub fn lift(a: Double, k: u8) -> Option<Double>
+pub(crate) fn lift(a: Double, k: u8) -> Option<Double>
     requires few { ⌜ k ≤ 192 ⌝ }
     ensures answer { λ r. ⌜ valued units r ≡ lifted meaning (units a) k ⌝ }
     ensures number { λ r. ⌜ Gives meaning units r ⌝ }

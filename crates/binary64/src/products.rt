@@ -11,7 +11,7 @@ use crate::limits::one_zero;
 use crate::steps::product_error;
 
 // The rounded product.
-pub fn product(a: Double, b: Double) -> Option<Double>
+pub(crate) fn product(a: Double, b: Double) -> Option<Double>
     ensures answer { λ r. ⌜ valued units r ≡ rounded-product meaning (units a) (units b) ⌝ }
     ensures number { λ r. ⌜ Gives meaning units r ⌝ }
 {
@@ -26,7 +26,7 @@ pub fn product(a: Double, b: Double) -> Option<Double>
 }
 
 // The rounded product and its error part, which is computed only where the product is in range.
-pub fn split_product(a: Double, b: Double) -> Option<(Double, Double)>
+pub(crate) fn split_product(a: Double, b: Double) -> Option<(Double, Double)>
     ensures answer { λ r. ⌜ split-valued units r ≡ product-split meaning (units a) (units b) ⌝ }
     ensures number { λ r. ⌜ Gives-both meaning units r ⌝ }
 {

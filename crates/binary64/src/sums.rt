@@ -9,7 +9,7 @@ use crate::limits::at_most_high;
 use crate::steps::two_sum;
 
 // The rounded sum.
-pub fn sum(a: Double, b: Double) -> Option<Double>
+pub(crate) fn sum(a: Double, b: Double) -> Option<Double>
     ensures answer { λ r. ⌜ valued units r ≡ rounded-sum meaning (units a) (units b) ⌝ }
     ensures number { λ r. ⌜ Gives meaning units r ⌝ }
 {
@@ -21,7 +21,7 @@ pub fn sum(a: Double, b: Double) -> Option<Double>
 }
 
 // The rounded sum and its error part.
-pub fn split_sum(a: Double, b: Double) -> Option<(Double, Double)>
+pub(crate) fn split_sum(a: Double, b: Double) -> Option<(Double, Double)>
     ensures answer { λ r. ⌜ split-valued units r ≡ sum-split meaning (units a) (units b) ⌝ }
     ensures number { λ r. ⌜ Gives-both meaning units r ⌝ }
 {

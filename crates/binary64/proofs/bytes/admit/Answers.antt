@@ -1,5 +1,5 @@
 -- The bytes are joined, and the pattern admitted.
-use mathlib.Core.Path.{_≡_, sym, ap, _∙_}
+use mathlib.Core.Path.{sym, ap, _∙_}
 use Rattle.binary64.specs.Patterns.{admission}
 use Rattle.binary64.proofs.TheRules.{admit-is}
 use Rattle.binary64.proofs.bytes.admit.Needs as need

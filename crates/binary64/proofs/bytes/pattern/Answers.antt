@@ -1,5 +1,5 @@
 -- The bytes of the one bit pattern.
-use mathlib.Core.Path.{_≡_, sym, ap, _∙_}
+use mathlib.Core.Path.{sym, ap, _∙_}
 use Rattle.binary64.specs.Patterns.{bytes}
 use Rattle.binary64.proofs.TheRules.{pattern-is}
 use Rattle.binary64.proofs.bytes.pattern.Needs as need

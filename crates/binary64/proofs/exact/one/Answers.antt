@@ -2,7 +2,6 @@
 use lib.Ieee.{binary64, ofBits}
 use Rattle.binary64.proofs.TheMeans.{is-number}
 use Rattle.binary64.proofs.ExactFloats.{one-fine, one-value}
-use borrow.Author.Needs.{needs}
 use Rattle.binary64.proofs.exact.one.Needs as need
 
 pub ghost-result : need.ghost-result

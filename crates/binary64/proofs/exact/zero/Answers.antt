@@ -2,7 +2,6 @@
 use lib.Ieee.{binary64, ofBits}
 use Rattle.binary64.proofs.TheMeans.{is-number}
 use Rattle.binary64.proofs.Written.{nil-fine, nil-value}
-use borrow.Author.Needs.{needs}
 use Rattle.binary64.proofs.exact.zero.Needs as need
 
 pub ghost-result : need.ghost-result

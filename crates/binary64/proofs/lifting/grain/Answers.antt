@@ -1,5 +1,5 @@
 -- k u is exact.
-use mathlib.Core.Path.{_≡_, sym, ap, _∙_, subst}
+use mathlib.Core.Path.{sym, ap, _∙_, subst}
 use lib.Ieee.{binary64}
 use lib.Ieee.Scale.{finite}
 use Rattle.rounding.specs.Value.{value}
@@ -9,7 +9,6 @@ use Rattle.binary64.specs.Patterns.{meaning}
 use Rattle.binary64.specs.Steps.{grain-steps}
 use Rattle.binary64.proofs.TheMeans.{is-number}
 use Rattle.binary64.proofs.GrainFloats.{grain-value, grain-fine}
-use borrow.Author.Needs.{needs}
 use Rattle.binary64.proofs.lifting.grain.Needs as need
 
 pub ghost-result : need.ghost-result

@@ -1,6 +1,6 @@
 -- TwoSum is error-free: its second float is the exact error, and a number.
-use mathlib.Core.Path.{_≡_, sym, ap, _∙_, subst}
-use lib.Ieee.{binary64, add}
+use mathlib.Core.Path.{sym, ap, _∙_, subst}
+use lib.Ieee.{binary64}
 use lib.Ieee.Scale.{finite}
 use Rattle.binary64.specs.Limits.{Small, least, reach}
 use Rattle.binary64.specs.Patterns.{meaning}
