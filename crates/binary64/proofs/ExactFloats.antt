@@ -23,7 +23,7 @@ use Rattle.binary64.specs.Limits.{reach, least, InRange}
 use Rattle.binary64.specs.Patterns.{meaning, exponent, size, significand, negative}
 use Rattle.binary64.proofs.Means.{Fine, held, size-signed, abs-value, at-most, at-least, large-of}
 use Rattle.binary64.proofs.TheMeans.{means}
-use Rattle.binary64.proofs.BitLimits.{high-in}
+use Rattle.binary64.proofs.BitLimits.{sign-bit, high-pattern, high-in}
 use Rattle.binary64.proofs.Fields.{bits-fine, value-by-fields}
 use Rattle.binary64.proofs.Written.{nil-is}
 
@@ -65,47 +65,47 @@ pub zero-no : (x : Float) → T (fits binary64 x) → finite x ≡ true → eq x
 zero-no x f n e z = subst T (sym (ap (λ (k : ℕ). eqb k 0) z) ∙ sym (eq-zero x (held binary64 x f n)) ∙ e) tt
 
 -- ---- the absolute value: without the sign's bit the fields say the same size, and no sign
-size-cut : (b : ℕ) → size (b % 9223372036854775808) ≡ size b
+size-cut : (b : ℕ) → size (b % sign-bit) ≡ size b
 unfolding size significand
 size-cut b =
-    ap (λ (k : ℕ). cond (eqb k 0) (b % 9223372036854775808 % 4503599627370496) (2 ^ 52 + b % 9223372036854775808 % 4503599627370496) * 2 ^ (k - 1)) (twice b)
+    ap (λ (k : ℕ). cond (eqb k 0) (b % sign-bit % 4503599627370496) (2 ^ 52 + b % sign-bit % 4503599627370496) * 2 ^ (k - 1)) (twice b)
     ∙ ap (λ (k : ℕ). cond (eqb (exponent b) 0) k (2 ^ 52 + k) * 2 ^ (exponent b - 1)) (low-part b)
   where
-    twice : (b : ℕ) → exponent (b % 9223372036854775808) ≡ exponent b
+    twice : (b : ℕ) → exponent (b % sign-bit) ≡ exponent b
     twice b = omega arith
-    low-part : (b : ℕ) → b % 9223372036854775808 % 4503599627370496 ≡ b % 4503599627370496
+    low-part : (b : ℕ) → b % sign-bit % 4503599627370496 ≡ b % 4503599627370496
     low-part b = omega arith
 
 module _ (x : Float) (X : Fine binary64 reach x) where
   abbrev bits : ℕ
   bits = toBits binary64 x
 
-  limit : bits % 9223372036854775808 ≤ 8660422083433463808
+  limit : bits % sign-bit ≤ high-pattern
   limit = high-in x (X .0) (X .1) (X .2)
 
-  pub size-bits : bits % 9223372036854775808 % 9223372036854775808 ≤ 8660422083433463808
+  pub size-bits : bits % sign-bit % sign-bit ≤ high-pattern
   size-bits = again bits limit
     where
-      again : (b : ℕ) → b % 9223372036854775808 ≤ 8660422083433463808 → b % 9223372036854775808 % 9223372036854775808 ≤ 8660422083433463808
+      again : (b : ℕ) → b % sign-bit ≤ high-pattern → b % sign-bit % sign-bit ≤ high-pattern
       again b h = omega arith
 
-  pub size-fine : Fine binary64 reach (ofBits binary64 (bits % 9223372036854775808))
-  size-fine = bits-fine (bits % 9223372036854775808) (under bits) size-bits
+  pub size-fine : Fine binary64 reach (ofBits binary64 (bits % sign-bit))
+  size-fine = bits-fine (bits % sign-bit) (under bits) size-bits
     where
-      under : (b : ℕ) → b % 9223372036854775808 < 18446744073709551616
+      under : (b : ℕ) → b % sign-bit < 18446744073709551616
       under b = omega arith
 
-  pub size-value : value binary64 (ofBits binary64 (bits % 9223372036854775808)) ≡ pos (natAbs (value binary64 x))
+  pub size-value : value binary64 (ofBits binary64 (bits % sign-bit)) ≡ pos (natAbs (value binary64 x))
   size-value =
-      value-by-fields (bits % 9223372036854775808) (no-ones bits limit) ∙ ap (λ (s : Bool). signed s (size (bits % 9223372036854775808))) (no-sign bits) ∙ ap pos (size-cut bits)
+      value-by-fields (bits % sign-bit) (no-ones bits limit) ∙ ap (λ (s : Bool). signed s (size (bits % sign-bit))) (no-sign bits) ∙ ap pos (size-cut bits)
       ∙ ap pos (sym (ap (λ (y : Float). natAbs (value binary64 y)) (sym (ofBits-toBits binary64 x (X .0))) ∙ ap natAbs (value-by-fields bits (no-ones′ bits limit)) ∙ size-signed (negative bits) (size bits)))
     where
-      no-ones : (b : ℕ) → b % 9223372036854775808 ≤ 8660422083433463808 → exponent (b % 9223372036854775808) ≡ 2047 → ⊥
+      no-ones : (b : ℕ) → b % sign-bit ≤ high-pattern → exponent (b % sign-bit) ≡ 2047 → ⊥
       no-ones b h e = omega arith
-      no-ones′ : (b : ℕ) → b % 9223372036854775808 ≤ 8660422083433463808 → exponent b ≡ 2047 → ⊥
+      no-ones′ : (b : ℕ) → b % sign-bit ≤ high-pattern → exponent b ≡ 2047 → ⊥
       no-ones′ b h e = omega arith
-      no-sign : (b : ℕ) → negative (b % 9223372036854775808) ≡ false
-      no-sign b = leb-no 9223372036854775808 (b % 9223372036854775808) (λ h. absurd (omega arith))
+      no-sign : (b : ℕ) → negative (b % sign-bit) ≡ false
+      no-sign b = leb-no sign-bit (b % sign-bit) (λ h. absurd (omega arith))
 
 -- ---- the negative
 neg-finite : (x : Float) → finite x ≡ true → finite (neg x) ≡ true

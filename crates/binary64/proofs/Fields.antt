@@ -19,7 +19,7 @@ use Rattle.binary64.specs.Limits.{reach}
 use Rattle.binary64.specs.Patterns.{meaning, negative, exponent, fraction, significand, size, admission, reads}
 use Rattle.binary64.proofs.Means.{Fine, size-signed, abs-value}
 use Rattle.binary64.proofs.TheMeans.{is-number}
-use Rattle.binary64.proofs.BitLimits.{high-in, high-out}
+use Rattle.binary64.proofs.BitLimits.{sign-bit, high-pattern, infinity-pattern, high-in, high-out}
 
 -- ---- the fields
 fields-value : (s : Bool) (x t : ℕ) → (x ≡ 2047 → ⊥) → HasValue (ofFields binary64 s x t) s (cond (eqb x 0) t (2 ^ 52 + t) * 2 ^ (x - 1)) (2 ^ 1074)
@@ -92,37 +92,37 @@ admission-number b a e = go (eqb (exponent b) 2047) (leb (size b) (2 ^ reach)) r
     go false false p q = absurd (subst Some-number (sym e ∙ admission-large b (other p) (λ s. subst T (sym (leb-yes (size b) (2 ^ reach) s) ∙ q) tt)) tt)
 
 -- ---- by the bits without the sign
-not-ones : (b : ℕ) → b % 9223372036854775808 < 9218868437227405312 → exponent b ≡ 2047 → ⊥
+not-ones : (b : ℕ) → b % sign-bit < infinity-pattern → exponent b ≡ 2047 → ⊥
 not-ones b h e = absurd (omega arith)
 
-pub no-nan-bits : (b : ℕ) → b % 9223372036854775808 < 9218868437227405312 → T (not (nanBits binary64 b))
-no-nan-bits b h = subst (λ (x : Bool). T (not x)) (sym (nanBits-above binary64 b)) (le→nltb 9218868437227405312 (b % 9223372036854775808) (omega arith))
+pub no-nan-bits : (b : ℕ) → b % sign-bit < infinity-pattern → T (not (nanBits binary64 b))
+no-nan-bits b h = subst (λ (x : Bool). T (not x)) (sym (nanBits-above binary64 b)) (le→nltb infinity-pattern (b % sign-bit) (omega arith))
 
 module _ (b : ℕ) (w : b < 18446744073709551616) where
-  own-bits : b % 9223372036854775808 < 9218868437227405312 → toBits binary64 (ofBits binary64 b) ≡ b
+  own-bits : b % sign-bit < infinity-pattern → toBits binary64 (ofBits binary64 b) ≡ b
   own-bits h = toBits-ofBits binary64 b w (subst (λ (x : Bool). T (not x)) (nanBits-is binary64 b) (no-nan-bits b h))
 
-  pub bits-fine : b % 9223372036854775808 ≤ 8660422083433463808 → Fine binary64 reach (ofBits binary64 b)
+  pub bits-fine : b % sign-bit ≤ high-pattern → Fine binary64 reach (ofBits binary64 b)
   bits-fine h =
-      let l : b % 9223372036854775808 < 9218868437227405312 = omega arith in
+      let l : b % sign-bit < infinity-pattern = omega arith in
       let n = subst (λ (x : Bool). T (not x)) (nanBits-is binary64 b) (no-nan-bits b l) in
-      let t = high-out (ofBits binary64 b) (ofBits-fits binary64 b) n (subst (λ (x : ℕ). x % 9223372036854775808 ≤ 8660422083433463808) (sym (own-bits l)) h) in
+      let t = high-out (ofBits binary64 b) (ofBits-fits binary64 b) n (subst (λ (x : ℕ). x % sign-bit ≤ high-pattern) (sym (own-bits l)) h) in
       (ofBits-fits binary64 b, t .0, t .1)
 
-  pub bits-yes : b % 9223372036854775808 ≤ 8660422083433463808 → number (value binary64 (ofBits binary64 b)) ≡ admission b
+  pub bits-yes : b % sign-bit ≤ high-pattern → number (value binary64 (ofBits binary64 b)) ≡ admission b
   bits-yes h =
       let o = not-ones b (omega arith) in
       sym (admission-yes b o (subst (λ (n : ℕ). n ≤ 2 ^ reach) (size-by-fields b o) (bits-fine h .2)))
 
-  pub bits-large : 8660422083433463808 < b % 9223372036854775808 → b % 9223372036854775808 < 9218868437227405312 → not-admitted 2 ≡ admission b
+  pub bits-large : high-pattern < b % sign-bit → b % sign-bit < infinity-pattern → not-admitted 2 ≡ admission b
   bits-large g h =
       let o = not-ones b h in
-      sym (admission-large b o (λ s. past (subst (λ (x : ℕ). x % 9223372036854775808 ≤ 8660422083433463808) (own-bits h) (high-in (ofBits binary64 b) (ofBits-fits binary64 b) (finite-by-fields b o) (subst (λ (n : ℕ). n ≤ 2 ^ reach) (sym (size-by-fields b o)) s)))))
+      sym (admission-large b o (λ s. past (subst (λ (x : ℕ). x % sign-bit ≤ high-pattern) (own-bits h) (high-in (ofBits binary64 b) (ofBits-fits binary64 b) (finite-by-fields b o) (subst (λ (n : ℕ). n ≤ 2 ^ reach) (sym (size-by-fields b o)) s)))))
     where
-      past : b % 9223372036854775808 ≤ 8660422083433463808 → ⊥
+      past : b % sign-bit ≤ high-pattern → ⊥
       past k = omega arith
 
-pub bits-infinite : (b : ℕ) → 9218868437227405312 ≤ b % 9223372036854775808 → not-admitted 1 ≡ admission b
+pub bits-infinite : (b : ℕ) → infinity-pattern ≤ b % sign-bit → not-admitted 1 ≡ admission b
 bits-infinite b h = sym (admission-infinite b (omega arith))
 
 -- ---- reading

@@ -6,6 +6,7 @@ use mathlib.Core.Path.{_≡_, _∙_}
 use lib.IntN.{pos}
 use lib.Ieee.{binary64, ofBits}
 use Rattle.binary64.specs.Patterns.{reads}
+use Rattle.binary64.proofs.BitLimits.{sign-bit, high-pattern, infinity-pattern}
 use Rattle.binary64.proofs.TheMeans.{is-number}
 use Rattle.binary64.proofs.Fields.{no-nan-bits, bits-fine, bits-yes, bits-large, bits-infinite, reads-number, reads-none}
 use borrow.Author.Needs.{needs}
@@ -22,10 +23,10 @@ returns-then-bits-le-HIGH-BITS c =
     let b = c .args .bits in
     record { answer = reads-number b _ (bits-yes b (search needs) (search needs)); number = is-number (ofBits binary64 b) (bits-fine b (search needs) (search needs)) }
 
-nothing : (b : ℕ) → b < 18446744073709551616 → 8660422083433463808 < b % 9223372036854775808 → pos 0 ≡ reads b
-nothing b w h = go (decLe 9218868437227405312 (b % 9223372036854775808))
+nothing : (b : ℕ) → b < 18446744073709551616 → high-pattern < b % sign-bit → pos 0 ≡ reads b
+nothing b w h = go (decLe infinity-pattern (b % sign-bit))
   where
-    go : Dec (9218868437227405312 ≤ b % 9223372036854775808) → pos 0 ≡ reads b
+    go : Dec (infinity-pattern ≤ b % sign-bit) → pos 0 ≡ reads b
     go (yes l) = reads-none b 1 (bits-infinite b l)
     go (no l) = reads-none b 2 (bits-large b w h (omega arith))
 
