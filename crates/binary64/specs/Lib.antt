@@ -1,0 +1,4 @@
+pub mod Limits
+pub mod Patterns
+pub mod Steps
+pub mod Doubles
