@@ -6,7 +6,7 @@
 -- grain k is k · half · B^(q−p) units, where half is half of the radix, since U · half · B^(q−p) is B^q.
 use Prim.Native.Nat.{ℕ, _+_, _-_, _*_, _/_, _^_, _≤_, _<_}
 use native.Mathlib.Omega.{arith}
-use native.Mathlib.Nat.{mul-le-mul-right, le-of-mul-le-mul-right, mul-pos, le-refl, le-trans, mul-div-cancel}
+use native.Mathlib.Nat.{mul-le-mul-right, le-of-mul-le-mul-right, mul-pos, one-mul, le-refl, le-trans, lt-of-le-of-lt, add-sub-of-le, mul-div-cancel}
 use mathlib.Core.Path.{_≡_, refl, sym, ap, _∙_, subst}
 use mathlib.Core.Bool.{_&&_}
 use mathlib.Core.Option.{some}
@@ -15,7 +15,7 @@ use mathlib.Core.List.{List}
 use lib.Dec.{T, leb, eqb, leb→le, eqb→eq}
 use lib.Pow.{pow-add}
 use lib.ListN.{length}
-use lib.IntN.{ℤ, pos, _+ℤ_, _-ℤ_, _*ℤ_, negℤ, natAbs}
+use lib.IntN.{ℤ, pos, _+ℤ_, _-ℤ_, _*ℤ_, negℤ, natAbs, *ℤ-comm}
 use lib.Signed.{quotZ}
 use Rattle.std.proofs.shelf.Signed.{ints}
 use Rattle.integers.proofs.Ring.{ring, at, num, _⊕_, _⊗_, ⊖_}
@@ -56,7 +56,7 @@ module _ (B p q low high : ℕ) (admit : List ℕ → Admission) (pattern : ℤ 
   N = rounding B p Q
 
   some-Q : 0 < Q
-  some-Q = some-power B q (omega (arith, L .base))
+  some-Q = some-power B q (omega arith)
 
   law : Laws B p Q
   law = laws B p Q (L .base) (L .digits) some-Q
@@ -75,12 +75,7 @@ module _ (B p q low high : ℕ) (admit : List ℕ → Admission) (pattern : ℤ 
   negative-is-number a h = record { unchanged = law .odd a Q some-Q ∙ ap negℤ (h .unchanged); bounded = rw (abs-neg a) (h .bounded) }
 
   one-is-number : Number m (pos Q)
-  one-is-number = is-number (pos Q) (record { m = 1; e = q; is = once Q; few = two (L .grains) }) (L .high-one)
-    where
-      once : (x : ℕ) → x ≡ 1 * x
-      once x = omega arith
-      two : 192 * L .half < B ^ p → 1 < B ^ p
-      two h = omega (arith, L .even, L .base)
+  one-is-number = is-number (pos Q) (record { m = 1; e = q; is = sym (one-mul Q); few = omega arith }) (L .high-one)
 
   -- ---- what is accepted
   zero-rounded : (d : ℕ) → 0 < d → N (pos 0) d ≡ pos 0
@@ -112,17 +107,15 @@ module _ (B p q low high : ℕ) (admit : List ℕ → Admission) (pattern : ℤ 
 
   lift-close : (a r : ℤ) (k : ℕ) → k ≤ 192 → Number m a → lift m a k ≡ some r → Close m (a *ℤ pos U) (Q * (U - k)) r
   unfolding lift
-  lift-close a r k l ha e = in-range-is a (a *ℤ pos U) r (Q * (U - k)) (mul-pos some-Q (omega (arith, L .fine))) (λ z. rw z (omega (arith, ints))) e .close
+  lift-close a r k l ha e = in-range-is a (a *ℤ pos U) r (Q * (U - k)) (mul-pos some-Q (omega arith)) (λ z. rw z (omega (arith, ints))) e .close
 
   -- ---- error parts
   -- what a close result lacks is no larger than the result
   part-size : (n r e : ℤ) (d : ℕ) → 0 < d → (r +ℤ e) *ℤ pos d ≡ n *ℤ pos Q → Close m n d r → natAbs e ≤ natAbs r
-  part-size n r e d h s c = le-of-mul-le-mul-right {k = d} (once U _ _ (L .fine) (rw off at (c .by-rounded))) h
+  part-size n r e d h s c = le-of-mul-le-mul-right {k = d} (omega (arith, mul-le-mul-right (natAbs e * d) (L .fine), rw off at (c .by-rounded))) h
     where
       off : natAbs (r *ℤ pos d -ℤ n *ℤ pos Q) ≡ natAbs e * d
       off = ap (λ x. natAbs (r *ℤ pos d -ℤ x)) (sym s) ∙ ap natAbs (ring (at r ⊗ num d ⊕ (⊖ ((at r ⊕ at e) ⊗ num d))) ((⊖ at e) ⊗ num d) (omega arith)) ∙ abs-mul (negℤ e) (pos d) ∙ ap (λ x. x * d) (abs-neg e)
-      once : (u x y : ℕ) → 1000 ≤ u → u * x ≤ y → x ≤ y
-      once u x y f k = omega (arith, mul-le-mul-right x f)
 
   -- ---- sums
   module _ (a b r : ℤ) (ha : Number m a) (hb : Number m b) (e : sum m a b ≡ some r) where
@@ -157,7 +150,7 @@ module _ (B p q low high : ℕ) (admit : List ℕ → Admission) (pattern : ℤ 
     part-is = ap (λ x. quotZ (x -ℤ r *ℤ pos Q) (pos Q)) (sym (part .exact)) ∙ ap (λ x. quotZ x (pos Q)) (ring ((at r ⊕ at (part .e)) ⊗ num Q ⊕ (⊖ (at r ⊗ num Q))) (at (part .e) ⊗ num Q) (omega arith)) ∙ quot-exact (part .e) Q some-Q
 
     product-error-is-exact : pos Q *ℤ (r +ℤ product-error m a b r) ≡ a *ℤ b
-    product-error-is-exact = rw part-is (ring (num Q ⊗ (at r ⊕ at (part .e))) ((at r ⊕ at (part .e)) ⊗ num Q) (omega arith) ∙ part .exact)
+    product-error-is-exact = rw part-is (*ℤ-comm (pos Q) (r +ℤ part .e) ∙ part .exact)
 
     product-error-is-number : Number m (product-error m a b r)
     product-error-is-number = rw part-is (is-number (part .e) (part .is-number) (le-trans small (product-is .bounded)))
@@ -173,26 +166,22 @@ module _ (B p q low high : ℕ) (admit : List ℕ → Admission) (pattern : ℤ 
   grain-shape k = sym (ap (λ x. k * x) powers ∙ regroup B (L .half) (B ^ (p - 1)) (B ^ (q - p)) (L .even))
     where
       powers : Q ≡ B * B ^ (p - 1) * B ^ (q - p)
-      powers = ap (λ x. B ^ x) (let room : q ≡ p + (q - p) = omega (arith, L .room) in room) ∙ pow-add B p (q - p) ∙ ap (λ x. x * B ^ (q - p)) (H-is B p (L .base) (L .digits))
+      powers = ap (λ x. B ^ x) (sym (add-sub-of-le (L .room))) ∙ pow-add B p (q - p) ∙ ap (λ x. x * B ^ (q - p)) (H-is B p (L .base) (L .digits))
       regroup : (b h x y : ℕ) → b ≡ 2 * h → k * (b * x * y) ≡ k * h * y * (2 * x)
       regroup b h x y e = rw e (omega arith)
 
   grain-is : (k : ℕ) → grain m k ≡ pos (units k)
   unfolding grain
-  grain-is k = ap (λ x. pos (x / U)) (sym (grain-shape k)) ∙ ap pos (mul-div-cancel (units k) (omega (arith, L .fine)))
+  grain-is k = ap (λ x. pos (x / U)) (sym (grain-shape k)) ∙ ap pos (mul-div-cancel (units k) (omega arith))
 
   grain-is-exact : (k : ℕ) → k ≤ 192 → grain m k *ℤ pos U ≡ pos k *ℤ pos Q
   grain-is-exact k h = rw (grain-is k) (ap pos (grain-shape k))
 
   grain-is-number : (k : ℕ) → k ≤ 192 → Number m (grain m k)
-  grain-is-number k h = rw (grain-is k) (is-number (pos (units k)) (record { m = k * L .half; e = q - p; is = refl; few = few (B ^ p) (L .grains) }) (le-trans small (L .high-one)))
+  grain-is-number k h = rw (grain-is k) (is-number (pos (units k)) (record { m = k * L .half; e = q - p; is = refl; few = lt-of-le-of-lt (mul-le-mul-right (L .half) h) (L .grains) }) (le-trans small (L .high-one)))
     where
-      few : (x : ℕ) → 192 * L .half < x → k * L .half < x
-      few x l = omega (arith, mul-le-mul-right (L .half) h)
-      low-by : (u x y : ℕ) → 1000 ≤ u → y ≡ k * x → y ≤ x * u
-      low-by u x y f e = omega (arith, mul-le-mul-right x h, mul-le-mul-right x f)
       small : units k ≤ Q
-      small = le-of-mul-le-mul-right {k = U} (low-by U Q (units k * U) (L .fine) (grain-shape k)) (omega (arith, L .fine))
+      small = le-of-mul-le-mul-right {k = U} (omega (arith, grain-shape k, mul-le-mul-right Q h, mul-le-mul-right Q (L .fine))) (omega arith)
 
   pub radix-rules : ((bytes : List ℕ) (a : ℤ) → admit bytes ≡ number a → Number m a) → ((a : ℤ) → Number m a → admit (pattern a) ≡ number a) → ((a : ℤ) → length (pattern a) ≡ 8) → Rules m
   radix-rules admitted written eight = record {
