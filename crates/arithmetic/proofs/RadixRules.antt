@@ -4,7 +4,7 @@
 -- zero, which rounds to zero, or is rounded to at least low, which is B^(2p) units or more: then its rounding is close, and a
 -- product has an error part. An error part is no larger than the close result that it belongs to, which is at most high. The
 -- grain k is k · half · B^(q−p) units, where half is half of the radix, since U · half · B^(q−p) is B^q.
-use Prim.Native.Nat.{ℕ, _+_, _-_, _*_, _/_, _^_, _≤_, _<_}
+use Prim.Native.Nat.{ℕ, _-_, _*_, _/_, _^_, _≤_, _<_}
 use native.Mathlib.Omega.{arith}
 use native.Mathlib.Nat.{mul-le-mul-right, le-of-mul-le-mul-right, mul-pos, one-mul, le-refl, le-trans, lt-of-le-of-lt, add-sub-of-le, mul-div-cancel}
 use mathlib.Core.Path.{_≡_, refl, sym, ap, _∙_, subst}
@@ -163,12 +163,10 @@ module _ (B p q low high : ℕ) (admit : List ℕ → Admission) (pattern : ℤ 
   units k = k * L .half * B ^ (q - p)
 
   grain-shape : (k : ℕ) → units k * U ≡ k * Q
-  grain-shape k = sym (ap (λ x. k * x) powers ∙ regroup B (L .half) (B ^ (p - 1)) (B ^ (q - p)) (L .even))
+  grain-shape k = omega (arith, ap (λ x. k * x) powers, ap (λ x. k * (x * B ^ (p - 1) * B ^ (q - p))) (L .even))
     where
       powers : Q ≡ B * B ^ (p - 1) * B ^ (q - p)
       powers = ap (λ x. B ^ x) (sym (add-sub-of-le (L .room))) ∙ pow-add B p (q - p) ∙ ap (λ x. x * B ^ (q - p)) (H-is B p (L .base) (L .digits))
-      regroup : (b h x y : ℕ) → b ≡ 2 * h → k * (b * x * y) ≡ k * h * y * (2 * x)
-      regroup b h x y e = rw e (omega arith)
 
   grain-is : (k : ℕ) → grain m k ≡ pos (units k)
   unfolding grain
