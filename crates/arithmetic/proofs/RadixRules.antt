@@ -1,9 +1,9 @@
--- The rules, shown once for p digits in radix B with B^q units to 1. They follow from the laws of rounding and from the
--- limits. A number here is what rounding leaves unchanged, so it has p digits, and what has p digits and is at most high is a
--- number. An accepted sum is a whole number of units, whose rounding is close. An accepted product or lift either is of a
--- zero, which rounds to zero, or is rounded to at least low, which is B^(2p) units or more: then its rounding is close, and a
--- product has an error part. An error part is no larger than the close result that it belongs to, which is at most high. The
--- grain k is k · half · B^(q−p) units, where half is half of the radix, since U · half · B^(q−p) is B^q.
+-- The rules, shown once for p digits in radix B with B^q units to 1. Each follows from a law of rounding and the limits.
+-- A number is what rounding leaves unchanged and is at most high, and the former says that it has p digits. The exact sum of
+-- two numbers is a whole number of units, so that its rounding is close. An accepted product or lift is exactly zero, and then
+-- rounds to zero, or is rounded to at least low, which is B^(2p) units or more: so its rounding is close, and a product has an
+-- error part. An error part is no larger than the rounded result, since that is close, and so is at most high. The grain k is
+-- k · half · B^(q−p) units, since U is 2 · B^(p−1) and the radix is 2 · half; as k · half is below B^p, it has p digits.
 use Prim.Native.Nat.{ℕ, _-_, _*_, _/_, _^_, _≤_, _<_}
 use native.Mathlib.Omega.{arith}
 use native.Mathlib.Nat.{mul-le-mul-right, le-of-mul-le-mul-right, mul-pos, one-mul, le-refl, le-trans, lt-of-le-of-lt, add-sub-of-le, mul-div-cancel}
@@ -33,6 +33,7 @@ use Rattle.arithmetic.specs.Operations.{sum, product, lift, grain, in-range, s
 use Rattle.arithmetic.specs.Rules.{Close, Rules}
 use Rattle.arithmetic.specs.Radix.{radix}
 
+-- what a format has to fulfil, in plain comparisons; `half` is half of the radix
 pub record Lawful (B p q low high : ℕ) : Type 0 where
   pub half : ℕ
   pub even : B ≡ 2 * half
@@ -95,7 +96,8 @@ module _ (B p q low high : ℕ) (admit : List ℕ → Admission) (pattern : ℤ 
   in-range-is exact n r d h z e = let t = some-from _ _ _ e in subst (Accepted n d) (t .1) (⊎-elim nothing within (either (eqb (natAbs exact) 0) _ (t .0)))
     where
       nothing : T (eqb (natAbs exact) 0) → Accepted n d (N n d)
-      nothing k = rw (z (none exact (eqb→eq _ _ k)), zero-rounded d h) (record { is = zero-rounded d h; bounded = omega arith; close = record { by-exact = rw off (omega arith); by-rounded = rw off (omega arith) }; lies = inl (refl, refl) })
+      nothing k = rw (z (none exact (eqb→eq _ _ k)), zero-rounded d h)
+          (record { is = zero-rounded d h; bounded = omega arith; close = record { by-exact = rw off (omega arith); by-rounded = rw off (omega arith) }; lies = inl (refl, refl) })
         where
           off : natAbs (pos 0 *ℤ pos d -ℤ pos 0 *ℤ pos Q) ≡ 0
           off = omega (arith, ints)
@@ -110,12 +112,13 @@ module _ (B p q low high : ℕ) (admit : List ℕ → Admission) (pattern : ℤ 
   lift-close a r k l ha e = in-range-is a (a *ℤ pos U) r (Q * (U - k)) (mul-pos some-Q (omega arith)) (λ z. rw z (omega (arith, ints))) e .close
 
   -- ---- error parts
-  -- what a close result lacks is no larger than the result
+  -- what a close result lacks of the exact one is no larger than the result
   part-size : (n r e : ℤ) (d : ℕ) → 0 < d → (r +ℤ e) *ℤ pos d ≡ n *ℤ pos Q → Close m n d r → natAbs e ≤ natAbs r
   part-size n r e d h s c = le-of-mul-le-mul-right {k = d} (omega (arith, mul-le-mul-right (natAbs e * d) (L .fine), rw off at (c .by-rounded))) h
     where
       off : natAbs (r *ℤ pos d -ℤ n *ℤ pos Q) ≡ natAbs e * d
-      off = ap (λ x. natAbs (r *ℤ pos d -ℤ x)) (sym s) ∙ ap natAbs (ring (at r ⊗ num d ⊕ (⊖ ((at r ⊕ at e) ⊗ num d))) ((⊖ at e) ⊗ num d) (omega arith)) ∙ abs-mul (negℤ e) (pos d) ∙ ap (λ x. x * d) (abs-neg e)
+      off = ap (λ x. natAbs (r *ℤ pos d -ℤ x)) (sym s) ∙ ap natAbs (ring (at r ⊗ num d ⊕ (⊖ ((at r ⊕ at e) ⊗ num d))) ((⊖ at e) ⊗ num d) (omega arith)) ∙
+          abs-mul (negℤ e) (pos d) ∙ ap (λ x. x * d) (abs-neg e)
 
   -- ---- sums
   module _ (a b r : ℤ) (ha : Number m a) (hb : Number m b) (e : sum m a b ≡ some r) where
@@ -147,7 +150,8 @@ module _ (B p q low high : ℕ) (admit : List ℕ → Admission) (pattern : ℤ 
     -- the quotient by Q is exact
     part-is : product-error m a b r ≡ part .e
     unfolding product-error
-    part-is = ap (λ x. quotZ (x -ℤ r *ℤ pos Q) (pos Q)) (sym (part .exact)) ∙ ap (λ x. quotZ x (pos Q)) (ring ((at r ⊕ at (part .e)) ⊗ num Q ⊕ (⊖ (at r ⊗ num Q))) (at (part .e) ⊗ num Q) (omega arith)) ∙ quot-exact (part .e) Q some-Q
+    part-is = ap (λ x. quotZ (x -ℤ r *ℤ pos Q) (pos Q)) (sym (part .exact)) ∙
+        ap (λ x. quotZ x (pos Q)) (ring ((at r ⊕ at (part .e)) ⊗ num Q ⊕ (⊖ (at r ⊗ num Q))) (at (part .e) ⊗ num Q) (omega arith)) ∙ quot-exact (part .e) Q some-Q
 
     product-error-is-exact : pos Q *ℤ (r +ℤ product-error m a b r) ≡ a *ℤ b
     product-error-is-exact = rw part-is (*ℤ-comm (pos Q) (r +ℤ part .e) ∙ part .exact)
@@ -176,8 +180,10 @@ module _ (B p q low high : ℕ) (admit : List ℕ → Admission) (pattern : ℤ 
   grain-is-exact k h = rw (grain-is k) (ap pos (grain-shape k))
 
   grain-is-number : (k : ℕ) → k ≤ 192 → Number m (grain m k)
-  grain-is-number k h = rw (grain-is k) (is-number (pos (units k)) (record { m = k * L .half; e = q - p; is = refl; few = lt-of-le-of-lt (mul-le-mul-right (L .half) h) (L .grains) }) (le-trans small (L .high-one)))
+  grain-is-number k h = rw (grain-is k) (is-number (pos (units k)) (record { m = k * L .half; e = q - p; is = refl; few = few }) (le-trans small (L .high-one)))
     where
+      few : k * L .half < B ^ p
+      few = lt-of-le-of-lt (mul-le-mul-right (L .half) h) (L .grains)
       small : units k ≤ Q
       small = le-of-mul-le-mul-right {k = U} (omega (arith, grain-shape k, mul-le-mul-right Q h, mul-le-mul-right Q (L .fine))) (omega arith)
 
