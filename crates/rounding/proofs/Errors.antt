@@ -121,7 +121,7 @@ module _ (β p Q : ℕ) (base : 2 ≤ β) (digits : 1 ≤ p) (scale : 1 ≤ Q) w
       powers : β ^ k .e * β ^ l .e ≡ Q * β ^ (k .e + l .e - q)
       powers = sym (pow-add β (k .e) (l .e)) ∙ ap (λ x. β ^ x) split ∙ pow-add β q (k .e + l .e - q) ∙ ap (λ x. x * β ^ (k .e + l .e - q)) (sym s)
 
-  more-than-H : (r : ℕ) → β ^ p * β ^ p ≤ r → β ^ (p - 1) < r
+  pub more-than-H : (r : ℕ) → β ^ p * β ^ p ≤ r → β ^ (p - 1) < r
   more-than-H r h = le-trans (larger (β ^ (p - 1)) (some-power β (p - 1) (some-B β p base digits))) (rw (H-is β p base digits) at h)
     where
       larger : (x : ℕ) → 0 < x → x < β * x * (β * x)

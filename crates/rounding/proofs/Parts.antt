@@ -11,19 +11,18 @@ use mathlib.Core.Path.{_≡_, sym, ap, _∙_, subst}
 use mathlib.Core.Logic.{_⊎_, ⊎-elim}
 use lib.Pow.{pow-add}
 use Rattle.integers.proofs.Naturals.{dist, some-power, before}
+use Rattle.rounding.specs.Digits.{Digits}
 use Rattle.rounding.proofs.Nearest.{Nearest}
 use Rattle.rounding.proofs.Rounded.{Rounds, exact-out, some-B}
-use Rattle.rounding.proofs.Numbers.{multiple-sum, multiple-dist, multiple-power}
+use Rattle.rounding.proofs.Numbers.{Multiple, multiple-sum, multiple-dist, multiple-power, digits-from, digits-zero}
 use Rattle.rounding.proofs.Closest.{closest}
-pub use Rattle.rounding.specs.Digits.{Digits}
-pub use Rattle.rounding.proofs.Numbers.{Multiple, digits-from, digits-rounded, digits-stay, digits-zero}
 
 module _ (B p : ℕ) (base : 2 ≤ B) (digits : 1 ≤ p) where
   one-times : (x : ℕ) → 1 * x ≡ x
   one-times x = omega arith
 
   -- no number is nearer to a whole number of units
-  pub best : (n r y : ℕ) → Rounds B p n 1 r → Digits B p y → dist n r ≤ dist n y
+  best : (n r y : ℕ) → Rounds B p n 1 r → Digits B p y → dist n r ≤ dist n y
   best n r y a b = omega (arith, closest B p base digits n 1 r y (omega arith) a b)
 
   part : (n r w f : ℕ) → Rounds B p n 1 r → Multiple (B ^ f) n → w ≤ B ^ p * B ^ f → dist n r ≤ w → Digits B p (dist n r)
@@ -62,7 +61,7 @@ module _ (B p : ℕ) (base : 2 ≤ B) (digits : 1 ≤ p) where
       go (yes l) = part n r u (b .e) a (all (b .e) (record { times = b .m; is = b .is }) (multiple-power B p base digits (b .e) (c .e) v l (record { times = c .m; is = c .is }))) (under-own u b) (reach u v by-u c)
       go (no l) = part n r v (c .e) a (all (c .e) (multiple-power B p base digits (c .e) (b .e) u (omega arith) (record { times = b .m; is = b .is })) (record { times = c .m; is = c .is })) (under-own v c) (reach v u by-v b)
 
-  pub half-off : (z r : ℕ) → (a : Rounds B p z 1 r) → dist z r ≤ B ^ a .e
+  half-off : (z r : ℕ) → (a : Rounds B p z 1 r) → dist z r ≤ B ^ a .e
   half-off z r a = rw (a .is) (half z (B ^ a .e) (a .m) (b .not-above) (b .not-below))
     where
       b : Nearest z (B ^ a .e) (a .m)

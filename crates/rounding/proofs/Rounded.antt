@@ -237,10 +237,3 @@ module _ (B p : ℕ) (base : 2 ≤ B) (digits : 1 ≤ p) where
         where
           up-one : ((k : ℕ) × (c .e ≡ suc k)) → rounded B p n d * d ≡ m * B ^ e * d
           up-one j = top n d (rounded B p n d) (j .0) h c (j .1) (squeezed m (B ^ p) (B ^ e) (B ^ j .0) d l (pow-le-pow-right some-B (omega (arith, j .1))) (c .least (j .0) (j .1)))
-
-  -- rounding twice is rounding once
-  pub twice : (n d d′ : ℕ) → 0 < d → 0 < d′ → rounded B p (rounded B p n d * d′) d′ ≡ rounded B p n d
-  twice n d d′ h h′ = rw (a .is) (stays (a .m) (a .e) d′ h′ (at-most-digits n d _ h a))
-    where
-      a : Rounds B p n d (rounded B p n d)
-      a = rounds n d h
