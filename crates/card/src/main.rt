@@ -2,13 +2,17 @@
 ghost use Rattle.bench.specs.Benches.{Standing};
 use arithmetic::Arithmetic;
 use bench::Bench;
+use bench::check_row;
 use binary64::Binary64;
 use binary64::Binary64Arithmetic;
+use figures::worked_figures;
 use lines::Line;
 use lines::LineDisplay;
+use rounding::rounding_laws;
 use row::cell::Cell;
 use std::io;
 
+mod figures;
 mod lines;
 
 // The zeros of the card, and the largest number, 2^900, as patterns.
@@ -54,7 +58,12 @@ fn clear(bench: &mut Bench<Binary64>) -> Line
 }
 
 fn main(rt: LibcRuntime) -> io::Result<()> {
+    rounding_laws();
+    worked_figures();
     let mut row = [Cell { sum: 0u64, correction: 0, errors: 0 }; 4];
+    if let Err(refusal) = check_row(&row) {
+        return rt.println(Line::Refused(refusal));
+    }
     let mut bench = Bench::make(&Binary64, &mut row, 1);
     rt.println(add(&mut bench, &ONE))?;
     rt.println(add(&mut bench, &TWO))?;
