@@ -56,6 +56,7 @@ low-bits (fin s m e) h =
   where
     under : (b u v : ℕ) → b ≡ sign-bit + u + v → b < 2 * sign-bit → u + v < sign-bit
     under b u v e h = omega arith
+
     cut : (s : Bool) (u v : ℕ) → u + v < sign-bit → (cond s sign-bit 0 + u + v) % sign-bit ≡ u + v
     cut true u v h = omega arith
     cut false u v h = omega arith
@@ -78,6 +79,7 @@ at-most n h = go (decLe (2 ^ 1974) n)
   where
     weak : {x y : ℕ} → x < y → x ≤ y
     weak h = omega arith
+
     go : Dec (2 ^ 1974 ≤ n) → code 53 n ≤ high-pattern
     go (yes l) = subst (λ (k : ℕ). code 53 k ≤ high-pattern) (le-antisymm l h) (lit≤ tt)
     go (no l) = weak (below 53 1974 n (lit< tt) (lit≤ tt) (lt-of-not-le l))

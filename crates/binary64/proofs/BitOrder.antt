@@ -55,6 +55,7 @@ at-least p c n P h l =
   where
     over : (z : ℕ) → c < z → p ≤ z
     over z k = omega arith
+
     go : (z w q : ℕ) → c < z → w ≤ q → (c - p + 2) * w ≤ (z - p) * w + q
     go z w q k l = omega (arith, mul-le-mul-right {m = c - p + 1} {n = z - p} w (omega arith))
 
@@ -65,13 +66,16 @@ above p c n P h e l =
   where
     up : (x : ℕ) → x ≤ suc x
     up x = omega arith
+
     over : (z : ℕ) → c < z → p ≤ z
     over z k = omega arith
+
     strict : size n ≡ suc c → 2 ^ (p - 1) < n / 2 ^ (size n - p)
     strict k = lt-of-mul-lt-mul-right (2 ^ (size n - p)) (subst (λ (x : ℕ). 2 ^ (p - 1) * 2 ^ (size n - p) < x) (sym e) (subst (λ (x : ℕ). x < n) (ap (λ (x : ℕ). 2 ^ x) (same (size n) k) ∙ pow-add 2 (p - 1) (size n - p)) l))
       where
         same : (z : ℕ) → z ≡ suc c → c ≡ p - 1 + (z - p)
         same z k = omega arith
+
     go : (z w q : ℕ) → c < z → w ≤ q → (z ≡ suc c → w < q) → 0 < w → (c - p + 2) * w < (z - p) * w + q
     go z w q k l s o = by (decLe z (suc c))
       where
@@ -88,8 +92,10 @@ whole p n r =
   where
     plain : {x : ℕ} → n < 0 + x → n < x
     plain h = omega arith
+
     few : (z : ℕ) → z ≤ p + r .at → z - p ≤ r .at
     few z h = omega arith
+
     shape : (k : ℕ) → k ≤ r .at → n ≡ (r .div .u - r .div .d) * 2 ^ (r .at - k) * 2 ^ k
     shape k h = minus n (r .div .u) (r .div .d) (2 ^ r .at) (r .div .is) ∙ ap (λ (x : ℕ). (r .div .u - r .div .d) * x) (split-pow k (r .at) h) ∙ sym (mul-assoc (r .div .u - r .div .d) (2 ^ (r .at - k)) (2 ^ k))
       where

@@ -42,6 +42,7 @@ level-zero s zero y M L E q h l k = ap (level s 0 false) q ∙ yes s ∙ sym (ap
     yes : (s : Bool) → level s 0 false 0 ≡ true
     yes true = refl
     yes false = refl
+
     gone : (M : ℕ) → 0 ≡ M * E → M ≡ 0
     gone zero e = refl
     gone (suc M) e = absurd (lt-irrefl 0 (subst (λ (n : ℕ). 0 < n) (sym e) (mul-pos {m = suc M} {n = E} (omega arith) k)))
@@ -73,6 +74,7 @@ size-cut b =
   where
     twice : (b : ℕ) → exponent (b % sign-bit) ≡ exponent b
     twice b = omega arith
+
     low-part : (b : ℕ) → b % sign-bit % 4503599627370496 ≡ b % 4503599627370496
     low-part b = omega arith
 
@@ -102,8 +104,10 @@ module _ (x : Float) (X : Fine binary64 reach x) where
     where
       no-ones : (b : ℕ) → b % sign-bit ≤ high-pattern → exponent (b % sign-bit) ≡ 2047 → ⊥
       no-ones b h e = omega arith
+
       no-ones′ : (b : ℕ) → b % sign-bit ≤ high-pattern → exponent b ≡ 2047 → ⊥
       no-ones′ b h e = omega arith
+
       no-sign : (b : ℕ) → negative (b % sign-bit) ≡ false
       no-sign b = leb-no sign-bit (b % sign-bit) (λ h. absurd (omega arith))
 
@@ -140,7 +144,7 @@ tested n = leb (meaning .low) n && leb n (meaning .high)
 pub limits-in : (x : Float) → InRange x → true ≡ in-limits meaning (value binary64 x)
 limits-in x (n, s, l) =
     sym (ap (λ (t : Bool). eqb (natAbs (value binary64 x)) 0 || (t && leb (natAbs (value binary64 x)) (meaning .high))) (leb-yes (meaning .low) (natAbs (value binary64 x)) (at-least binary64 least reach meaning means x l))
-         ∙ ap (λ (t : Bool). eqb (natAbs (value binary64 x)) 0 || t) (leb-yes (natAbs (value binary64 x)) (meaning .high) (at-most binary64 least reach meaning means x s)) ∙ always (eqb (natAbs (value binary64 x)) 0))
+    ∙ ap (λ (t : Bool). eqb (natAbs (value binary64 x)) 0 || t) (leb-yes (natAbs (value binary64 x)) (meaning .high) (at-most binary64 least reach meaning means x s)) ∙ always (eqb (natAbs (value binary64 x)) 0))
   where
     always : (b : Bool) → b || true ≡ true
     always true = refl
@@ -150,4 +154,4 @@ pub limits-else : (x : Float) → Fine binary64 reach x → (r : Bool) → (r �
 limits-else x X true y n h = sym (ap (λ (k : ℕ). eqb k 0 || tested k) (abs-value binary64 x ∙ y refl))
 limits-else x X false y n h =
     sym (ap (λ (t : Bool). t || tested (natAbs (value binary64 x))) (eqb-no (natAbs (value binary64 x)) 0 (λ e. n refl (sym (abs-value binary64 x) ∙ e)))
-         ∙ ap (λ (t : Bool). t && leb (natAbs (value binary64 x)) (meaning .high)) (leb-no (meaning .low) (natAbs (value binary64 x)) (λ l. h (X .1, X .2, large-of binary64 least reach meaning means x l))))
+    ∙ ap (λ (t : Bool). t && leb (natAbs (value binary64 x)) (meaning .high)) (leb-no (meaning .low) (natAbs (value binary64 x)) (λ l. h (X .1, X .2, large-of binary64 least reach meaning means x l))))

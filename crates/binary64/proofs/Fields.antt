@@ -28,7 +28,7 @@ fields-value s zero t h = odd-sign 53 s t 0 1074
 fields-value s (suc x) t h =
     subst (λ (b : Bool). HasValue (cond b (cond (eqb t 0) (inf s) nan) (odd 53 s (2 ^ 52 + t) x 1074)) s (cond (eqb (suc x) 0) t (2 ^ 52 + t) * 2 ^ (suc x - 1)) (2 ^ 1074)) (sym (eqb-no (suc x) 2047 h))
     (subst (λ (b : Bool). HasValue (odd 53 s (2 ^ 52 + t) x 1074) s (cond b t (2 ^ 52 + t) * 2 ^ (suc x - 1)) (2 ^ 1074)) (sym (eqb-no (suc x) 0 (λ e. absurd (omega arith))))
-     (subst (λ (k : ℕ). HasValue (odd 53 s (2 ^ 52 + t) x 1074) s ((2 ^ 52 + t) * 2 ^ k) (2 ^ 1074)) (less x) (odd-sign 53 s (2 ^ 52 + t) x 1074)))
+    (subst (λ (k : ℕ). HasValue (odd 53 s (2 ^ 52 + t) x 1074) s ((2 ^ 52 + t) * 2 ^ k) (2 ^ 1074)) (less x) (odd-sign 53 s (2 ^ 52 + t) x 1074)))
   where
     less : (x : ℕ) → x ≡ suc x - 1
     less x = omega arith
@@ -83,6 +83,7 @@ admission-number b a e = go (eqb (exponent b) 2047) (leb (size b) (2 ^ reach)) r
   where
     other : eqb (exponent b) 2047 ≡ false → exponent b ≡ 2047 → ⊥
     other p h = subst T (sym (ap (λ (x : ℕ). eqb x 2047) h) ∙ p) tt
+
     go : (t u : Bool) → eqb (exponent b) 2047 ≡ t → leb (size b) (2 ^ reach) ≡ u → Number meaning a
     go true u p q = absurd (subst Some-number (sym e ∙ admission-infinite b (eqb→eq (exponent b) 2047 (subst T (sym p) tt))) tt)
     go false true p q =

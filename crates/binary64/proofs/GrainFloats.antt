@@ -48,10 +48,10 @@ grain-value k h = exact-grain k h .1 ∙ grains k
 
 pub grain-fine : (k : ℕ) → k ≤ 192 → Fine binary64 reach (grain-steps k)
 grain-fine k h = (
-    mul-fits binary64 _ _,
-    true-of (finite (grain-steps k)) (exact-grain k h .0 .1),
-    small-of binary64 least reach meaning means (grain-steps k) (subst (λ (z : ℤ). natAbs z ≤ meaning .high) (sym (grain-value k h)) (rules .grain-is-number k h .bounded)),
-  )
+  mul-fits binary64 _ _,
+  true-of (finite (grain-steps k)) (exact-grain k h .0 .1),
+  small-of binary64 least reach meaning means (grain-steps k) (subst (λ (z : ℤ). natAbs z ≤ meaning .high) (sym (grain-value k h)) (rules .grain-is-number k h .bounded)),
+)
 
 -- ---- the divisor
 abbrev divisor : ℕ → Float

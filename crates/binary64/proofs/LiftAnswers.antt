@@ -37,5 +37,5 @@ lift-nil f least reach m M a k h z =
     let e : value f a ≡ pos 0 = zero-abs (value f a) (abs-value f a ∙ z) in
     lift-zero m (value f a) k (pos 0)
     (ap (λ (v : ℤ). m .rounding (v *ℤ pos (m .U)) (m .Q * (m .U - k))) e ∙ ap (λ (v : ℤ). m .rounding v (m .Q * (m .U - k))) (nil-left (m .U))
-     ∙ rounds-lift f least reach m M (pos 0) k h ∙ rounding-nil (prec f) (pos 0) (2 ^ prec f - k) (left-over f least reach m M k h) refl)
+    ∙ rounds-lift f least reach m M (pos 0) k h ∙ rounding-nil (prec f) (pos 0) (2 ^ prec f - k) (left-over f least reach m M k h) refl)
     (abs-value f a ∙ z)

@@ -105,8 +105,9 @@ module _ (f : Format) (least reach : ℕ) (m : Meaning) (M : Means f least reach
 
   pub number-of : (x : Float) → Fine f reach x → Number m (value f x)
   number-of x (h, n, s) = record {
-      unchanged = rounds-sum (value f x) ∙ subst (λ (p : ℕ). rounding p (value f x) 1 ≡ value f x) (sym (prec-is f)) (fixed (digits f) (value f x) (value-rep f x (held f x h n)));
-      bounded = at-most x s }
+    unchanged = rounds-sum (value f x) ∙ subst (λ (p : ℕ). rounding p (value f x) 1 ≡ value f x) (sym (prec-is f)) (fixed (digits f) (value f x) (value-rep f x (held f x h n)));
+    bounded = at-most x s;
+  }
 
   -- ---- x is r rounded, or is infinite, where r is too large
   pub record Rounded (r : ℤ) (x : Float) : Type 0 where
@@ -118,6 +119,7 @@ module _ (f : Format) (least reach : ℕ) (m : Meaning) (M : Means f least reach
     where
       room : {x : ℕ} → 5 + reach < x → reach < x
       room h = omega arith
+
       sizes : (r : ℤ) → D.up r + D.down r ≡ natAbs r
       sizes (pos n) = omega arith
       sizes (negsuc n) = omega arith

@@ -50,6 +50,7 @@ div-no-nan f (fin s m e) (fin t n d) a b z = go (eqb n 0) (eqb→eq n 0)
   where
     nothing : n ≡ 0 → n * up d * 2 ^ low f / down d ≡ 0
     nothing e = ap (λ (k : ℕ). k * up d * 2 ^ low f / down d) e ∙ ap (λ (k : ℕ). k * 2 ^ low f / down d) (zero-mul (up d)) ∙ ap (λ (k : ℕ). k / down d) (zero-mul (2 ^ low f)) ∙ zero-div (down d)
+
     go : (c : Bool) → (T c → n ≡ 0) → T (not (isNan (cond c (cond (eqb m 0) nan (inf (unlike s t))) (round f (unlike s t) (m * up e * down d) (n * up d * down e)))))
     go true h = absurd (z (nothing (h tt)))
     go false h = round-no-nan f (unlike s t) (m * up e * down d) (n * up d * down e)

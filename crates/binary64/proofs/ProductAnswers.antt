@@ -86,11 +86,11 @@ module _ (f : Format) (least reach : ℕ) (m : Meaning) (M : Means f least reach
 
     pub tail-fine : Fine f reach (tail f a b (mul f a b))
     tail-fine = (
-        sub-fits f _ _,
-        true-of (finite (tail f a b (mul f a b))) (parts .0),
-        tail-within f reach (M .below) a b (M .product-room) (M .low-room) (M .high-room) held-a held-b (within-value f a (2 ^ reach) (A .2)) (within-value f b (2 ^ reach) (B .2)) finite-product
-        (within-value f (mul f a b) (2 ^ reach) (r .1)) (over-value f (mul f a b) (2 ^ suc (M .below)) (subst (λ (k : ℕ). 2 ^ k ≤ magnitude f (mul f a b)) (M .least-is) (r .2))),
-      )
+      sub-fits f _ _,
+      true-of (finite (tail f a b (mul f a b))) (parts .0),
+      tail-within f reach (M .below) a b (M .product-room) (M .low-room) (M .high-room) held-a held-b (within-value f a (2 ^ reach) (A .2)) (within-value f b (2 ^ reach) (B .2)) finite-product
+          (within-value f (mul f a b) (2 ^ reach) (r .1)) (over-value f (mul f a b) (2 ^ suc (M .below)) (subst (λ (k : ℕ). 2 ^ k ≤ magnitude f (mul f a b)) (M .least-is) (r .2))),
+    )
 
   module _ (R : Rules m) where
     -- y is the error part as a function gave it
@@ -98,11 +98,10 @@ module _ (f : Format) (least reach : ℕ) (m : Meaning) (M : Means f least reach
         → (some (record { main = value f (mul f a b); error = value f y }) ≡ product-split m (value f a) (value f b)) × (Number m (value f (mul f a b)) × Number m (value f y))
     split-yes r y ey =
         let x = mul f a b in
-        let t = tail f a b x in
-        (
+        let t = tail f a b x in (
           ap (λ (z : Float). some (record { main = value f x; error = value f z })) ey
-          ∙ product-split-is m R (value f a) (value f b) (value f x) (value f t) (number-of f least reach m M a A) (number-of f least reach m M b B) (product-yes r)
-            (ap (λ (q : ℕ). (value f x +ℤ value f t) *ℤ pos q) (M .scale) ∙ parts r .1),
+              ∙ product-split-is m R (value f a) (value f b) (value f x) (value f t) (number-of f least reach m M a A) (number-of f least reach m M b B) (product-yes r)
+              (ap (λ (q : ℕ). (value f x +ℤ value f t) *ℤ pos q) (M .scale) ∙ parts r .1),
           (number-of f least reach m M x (product-fine r), subst (λ (z : Float). Number m (value f z)) (sym ey) (number-of f least reach m M t (tail-fine r))),
         )
 

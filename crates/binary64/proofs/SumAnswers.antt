@@ -36,8 +36,7 @@ module _ (f : Format) (least reach : ℕ) (m : Meaning) (M : Means f least reach
   pub rest-fine : Fine f reach (rest f a b)
   rest-fine =
       let wa = within-value f a (2 ^ reach) (A .2) in
-      let wb = within-value f b (2 ^ reach) (B .2) in
-      (
+      let wb = within-value f b (2 ^ reach) (B .2) in (
         add-fits f _ _,
         true-of (finite (rest f a b)) (two-sum-floats f reach a b (M .sum-room) held-a held-b wa wb .1),
         le-trans (le-of-eq (sym (value-size f (rest f a b)))) (size-le (2 ^ reach) (value f (rest f a b)) (rest-within f reach a b (M .sum-room) held-a held-b wa wb)),
@@ -59,13 +58,14 @@ module _ (f : Format) (least reach : ℕ) (m : Meaning) (M : Means f least reach
   pub split-yes : (x y : Float) → x ≡ add f a b → y ≡ rest f a b → magnitude f x ≤ 2 ^ reach
       → (some (record { main = value f x; error = value f y }) ≡ sum-split m (value f a) (value f b)) × (Number m (value f x) × Number m (value f y))
   split-yes x y ex ey s =
-      let s′ = subst (λ (z : Float). magnitude f z ≤ 2 ^ reach) ex s in
-      (
+      let s′ = subst (λ (z : Float). magnitude f z ≤ 2 ^ reach) ex s in (
         ap (λ (z : Float). some (record { main = value f z; error = value f y })) ex ∙ ap (λ (z : Float). some (record { main = value f (add f a b); error = value f z })) ey
-        ∙ sum-split-is m (value f a) (value f b) (value f (add f a b)) (value f (rest f a b)) (sum-yes s′)
-          (two-sum-floats f reach a b (M .sum-room) held-a held-b (within-value f a (2 ^ reach) (A .2)) (within-value f b (2 ^ reach) (B .2)) .2),
-        (subst (λ (z : Float). Number m (value f z)) (sym ex) (number-of f least reach m M (add f a b) (sum-fine s′)),
-         subst (λ (z : Float). Number m (value f z)) (sym ey) (number-of f least reach m M (rest f a b) rest-fine)),
+            ∙ sum-split-is m (value f a) (value f b) (value f (add f a b)) (value f (rest f a b)) (sum-yes s′)
+            (two-sum-floats f reach a b (M .sum-room) held-a held-b (within-value f a (2 ^ reach) (A .2)) (within-value f b (2 ^ reach) (B .2)) .2),
+        (
+          subst (λ (z : Float). Number m (value f z)) (sym ex) (number-of f least reach m M (add f a b) (sum-fine s′)),
+          subst (λ (z : Float). Number m (value f z)) (sym ey) (number-of f least reach m M (rest f a b) rest-fine),
+        ),
       )
 
   pub split-no : (x : Float) → x ≡ add f a b → (magnitude f x ≤ 2 ^ reach → ⊥) → none ≡ sum-split m (value f a) (value f b)

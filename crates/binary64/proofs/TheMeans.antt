@@ -14,8 +14,19 @@ use Rattle.binary64.proofs.Means.{Means, Fine, number-of}
 pub means : Means binary64 least reach meaning
 unfolding meaning least reach
 means = record {
-    scale = refl; unit = refl; lower = refl; upper = refl; rounds = λ z d D. in-units 53 (2 ^ 1074) z d (lit< tt) (lit< tt) D;
-    sum-room = lit< tt; product-room = lit< tt; below = 173; least-is = refl; low-room = lit≤ tt; high-room = lit≤ tt; grains = lit< tt }
+  scale = refl;
+  unit = refl;
+  lower = refl;
+  upper = refl;
+  rounds = λ z d D. in-units 53 (2 ^ 1074) z d (lit< tt) (lit< tt) D;
+  sum-room = lit< tt;
+  product-room = lit< tt;
+  below = 173;
+  least-is = refl;
+  low-room = lit≤ tt;
+  high-room = lit≤ tt;
+  grains = lit< tt;
+}
 
 pub is-number : (x : Float) → Fine binary64 reach x → Number meaning (value binary64 x)
 is-number x h = number-of binary64 least reach meaning means x h

@@ -67,9 +67,11 @@ plus-at true A B C M b c h =
   where
     minus-nil : (n : ℕ) → n - 0 ≡ n
     minus-nil n = omega arith
+
     zero-A : (A : ℕ) → A * 2 ^ low binary64 ≡ 0 → A ≡ 0
     zero-A zero e = refl
     zero-A (suc A) e = absurd (lt-irrefl 0 (subst (λ (n : ℕ). 0 < n) e (mul-pos {m = suc A} {n = 2 ^ low binary64} (omega arith) (pow-pos (low binary64)))))
+
     go : (N : ℕ) → M ≡ N → round binary64 (ltb 0 A) A C ≡ float-of (signed true M)
     go zero e =
         let z : A ≡ 0 = zero-A A (h ∙ ap (λ (n : ℕ). n * C) e ∙ zero-mul C) in
@@ -110,16 +112,20 @@ exponent-size p zero n h = none (size n) (size-le n p (subst (λ (k : ℕ). n < 
   where
     plus-nil : (k : ℕ) → k + 0 ≡ k
     plus-nil k = omega arith
+
     none : (z : ℕ) → z ≤ p → 0 ≡ z - p
     none z l = omega arith
 exponent-size p (suc tries) n h = go (ltb n (2 ^ p)) refl (exponent-size (suc p) tries n (subst (λ (k : ℕ). n < 2 ^ k) over h))
   where
     none : (z : ℕ) → z ≤ p → 0 ≡ z - p
     none z l = omega arith
+
     next : (z : ℕ) → p < z → suc (z - suc p) ≡ z - p
     next z l = omega arith
+
     over : p + suc tries ≡ suc p + tries
     over = omega arith
+
     go : (t : Bool) → ltb n (2 ^ p) ≡ t → exponent 2 tries n (2 ^ suc p) ≡ size n - suc p → elim t [ true ↦ 0 | false ↦ suc (exponent 2 tries n (2 ^ p * 2)) ] ≡ size n - p
     go true e i = none (size n) (size-le n p (ltb→lt n (2 ^ p) (subst T (sym e) tt)))
     go false e i =
@@ -186,7 +192,7 @@ module _ (x : Float) (X : Fine binary64 reach x) where
   pub plain-back : reads (toBits binary64 sum-zero) ≡ value binary64 x
   plain-back =
       sym (reads-number (toBits binary64 sum-zero) (value binary64 sum-zero) (own-admission sum-zero
-        (add-fits binary64 x (ofBits binary64 0), plain-finite, small-of binary64 least reach meaning means sum-zero (subst (λ (z : ℤ). natAbs z ≤ meaning .high) (sym plain-value) (at-most binary64 least reach meaning means x (X .2))))))
+      (add-fits binary64 x (ofBits binary64 0), plain-finite, small-of binary64 least reach meaning means sum-zero (subst (λ (z : ℤ). natAbs z ≤ meaning .high) (sym plain-value) (at-most binary64 least reach meaning means x (X .2))))))
       ∙ plain-value
 
 -- ---- the pattern of any number

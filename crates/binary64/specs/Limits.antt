@@ -6,9 +6,11 @@ use lib.Ieee.{Float, binary64}
 use lib.Ieee.Scale.{finite}
 use Rattle.rounding.specs.Value.{magnitude}
 
+-- 2^least units are 2^-900
 unfoldable pub least : ℕ
 least = 174
 
+-- 2^reach units are 2^900
 unfoldable pub reach : ℕ
 reach = 1974
 

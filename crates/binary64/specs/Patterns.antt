@@ -32,13 +32,14 @@ unfoldable pub size : ℕ → ℕ
 size b = significand b * 2 ^ (exponent b - 1)
 
 -- ---- what a bit pattern is admitted and read as
--- 1: an infinity or a NaN, whose exponent's field is all ones. 2: above 2^900 in size. Minus zero is zero.
+-- Not admitted for cause 1 are the infinities and NaNs, whose exponent's field is all ones, and for cause 2 what is above 2^900 in
+-- size. Minus zero is admitted as zero.
 unfoldable pub admission : ℕ → Admission
 admission b =
     cond (eqb (exponent b) 2047) (not-admitted 1)
     (cond (leb (size b) (2 ^ reach)) (number (signed (negative b) (size b))) (not-admitted 2))
 
--- 0 where the pattern is not admitted
+-- what a bit pattern in a cell reads as: 0 where it is not admitted
 unfoldable pub reads : ℕ → ℤ
 reads b = elim (admission b) [ number z ↦ z | not-admitted c ↦ pos 0 ]
 
@@ -60,9 +61,11 @@ joined bs = getD bs 0 0 * 2 ^ 56 + getD bs 1 0 * 2 ^ 48 + getD bs 2 0 * 2 ^ 40 +
 abbrev pub bytes : ℕ → List ℕ
 bytes b = (b / 2 ^ 56 % 256) ∷ (b / 2 ^ 48 % 256) ∷ (b / 2 ^ 40 % 256) ∷ (b / 2 ^ 32 % 256) ∷ (b / 2 ^ 24 % 256) ∷ (b / 2 ^ 16 % 256) ∷ (b / 256 % 256) ∷ (b % 256) ∷ []
 
+-- what eight bytes are admitted as
 unfoldable pub admitted : List ℕ → Admission
 admitted bs = admission (joined bs)
 
+-- the eight bytes of a number
 unfoldable pub pattern : ℤ → List ℕ
 pattern z = bytes (written z)
 

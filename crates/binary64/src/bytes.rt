@@ -4,11 +4,11 @@ ghost use Rattle.arithmetic.specs.Meaning.{Number};
 ghost use Rattle.arithmetic.specs.Setting.{admission, Admits};
 ghost use Rattle.binary64.specs.Patterns.{meaning, reads, written, admission as admission-of};
 ghost use Rattle.binary64.specs.Doubles.{units};
-use arithmetic::cause::Cause;
 use crate::double::Double;
 use crate::exact::zero;
 use crate::limits::HIGH_BITS;
 use crate::limits::SIGN;
+use arithmetic::cause::Cause;
 
 // the bits of infinity; a NaN has more
 const INFINITY_BITS: u64 = 0x7ff0_0000_0000_0000;
@@ -19,7 +19,9 @@ pub(crate) fn read(bits: u64) -> Double
     ensures number { λ r. ⌜ Number meaning (units r) ⌝ }
 {
     if bits % SIGN <= HIGH_BITS {
-        return Double { x: f64::from_bits(bits) };
+        return Double {
+            x: f64::from_bits(bits),
+        };
     }
     zero()
 }
@@ -44,7 +46,9 @@ pub(crate) fn checked(bits: u64) -> Result<Double, Cause>
     if m > HIGH_BITS {
         return Err(Cause::TooLarge);
     }
-    Ok(Double { x: f64::from_bits(bits) })
+    Ok(Double {
+        x: f64::from_bits(bits),
+    })
 }
 
 // The number that eight bytes are admitted as, or the cause of their refusal.

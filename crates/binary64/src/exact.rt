@@ -30,7 +30,9 @@ pub(crate) fn size(a: Double) -> Double
     ensures answer { λ r. ⌜ units r ≡ size-of (units a) ⌝ }
     ensures number { λ r. ⌜ Number meaning (units r) ⌝ }
 {
-    Double { x: f64::from_bits(a.x.to_bits() % SIGN) }
+    Double {
+        x: f64::from_bits(a.x.to_bits() % SIGN),
+    }
 }
 
 pub(crate) fn negative(a: Double) -> Double

@@ -1,12 +1,12 @@
 // Binary64 as an arithmetic: IEEE 754 doubles at most 2^900 in size, every operation rounded once to nearest, ties to even.
 ghost use Rattle.binary64.specs.Patterns.{setting as setting-of};
 ghost use Rattle.binary64.specs.Doubles.{units};
+use crate::double::Double;
 use arithmetic::Arithmetic;
 use arithmetic::cause::Cause;
-use crate::double::Double;
 
-pub mod double;
 mod bytes;
+pub mod double;
 mod exact;
 mod lifting;
 mod limits;

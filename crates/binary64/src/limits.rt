@@ -10,6 +10,7 @@ ghost use Rattle.binary64.specs.Limits.{Small, InRange};
 
 // the bits of 2^-900 and of 2^900
 pub(crate) const LOW_BITS: u64 = 0x07b0_0000_0000_0000;
+
 pub(crate) const HIGH_BITS: u64 = 0x7830_0000_0000_0000;
 // the weight of the sign
 pub(crate) const SIGN: u64 = 0x8000_0000_0000_0000;
