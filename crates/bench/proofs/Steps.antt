@@ -1,43 +1,70 @@
 -- What `step` answers, exit by exit: one lemma for each exit of a call, from the questions answered on the way to it. The law at
 -- the call comes with the answer.
-use mathlib.Core.Path.{_≡_, sym, ap, _∙_}
-use mathlib.Core.Bool.{Bool, true, false}
+use mathlib.Core.Path.{_≡_, refl, sym, ap, _∙_}
+use mathlib.Core.Bool.{Bool, true, false, cond}
 use mathlib.Core.List.{List, [], _∷_}
 use Prim.Native.Nat.{ℕ, suc, _-_, _≤_, _<_, min}
 use native.Mathlib.Omega.{arith}
-use lib.Dec.{eqb}
-use lib.IntN.{ℤ}
+use lib.Dec.{T, leb, eqb, leb→le}
+use lib.IntN.{ℤ, pos}
+use lib.Signed.{leZ}
 use lib.ListN.{length, getD, take, drop}
 use Rattle.std.proofs.shelf.Lists.{getD-map}
-use Rattle.integers.proofs.Tests.{leb-yes, leb-no, ltb-yes, ltb-no, eqb-yes, eqb-no, taken, passed}
+use Rattle.std.specs.declared.result.Result.{Result}
+use Rattle.std.specs.declared.result.Result.the-variants.{Ok, Err}
+use Rattle.integers.proofs.Tests.{ltb-yes, ltb-no, eqb-yes, eqb-no, taken, passed}
 use Rattle.arithmetic.specs.Meaning.{number, not-admitted}
 use Rattle.arithmetic.specs.Operations.{in-limits}
 use Rattle.arithmetic.specs.Rules.{Rules}
 use Rattle.arithmetic.specs.Setting.{Setting}
-use Rattle.coefficients.specs.Row.{Cell as Values, cell, no-cell, new-row, done, stopped, Update, written, refused-at, row-after}
-use Rattle.coefficients.specs.Closing.{close}
-use Rattle.coefficients.specs.Calls.{Making, State, Call, Answer, Step, step, refuse, new-bench, add-updated, add-number, add-admitted, ask-closed, order-checked, add, clear, ask, added, cleared, asked, refused}
+use Rattle.coefficients.specs.Row.{Cell as Values, cell, no-cell, new-row, Trial, done, stopped, Update, written, refused-at, row-after}
+use Rattle.coefficients.specs.Closing.{Closed, close, Verdict, verdict}
+use Rattle.coefficients.specs.Calls.{Making, State, Call, Answer, Step, step, refuse, new-bench, add-updated, add-number, add-admitted, ask-closed, order-checked, mark-judged, mark-closed, mark-numbers, mark-tolerance, mark-admitted, add, clear, ask, issue, mark, withdraw, added, cleared, asked, issued, marked, withdrawn, refused}
 use Rattle.coefficients.proofs.Books.{call-law}
 use Rattle.row.specs.declared.cell.Cell.{Cell}
 use Rattle.row.specs.Reading.{reading, readings}
-use Rattle.bench.specs.Benches.{Called, Addition-leaves}
+use Rattle.bench.specs.Answers.{told-refusal}
+use Rattle.bench.specs.Asking.{by-answers, order-outcome, question-out}
+use Rattle.bench.specs.Benches.{Called}
+use Rattle.bench.specs.declared.refusal.Refusal.{Refusal}
+
+ok-err : {r : Refusal} {Y : Type 0} → _≡_ {A = Result (Unit {0}) Refusal} (Ok tt) (Err r) → Y
+ok-err e = absurd (let z : _≡_ {A = ℕ} 0 1 = cc in omega arith)
+
+err-is : {r r′ : Refusal} → _≡_ {A = Result (Unit {0}) Refusal} (Err r) (Err r′) → r ≡ r′
+err-is e = cc
 
 -- a cell of the row
 pub at-row : {P : Type 0} (st : Setting P) (row : List (Cell P)) (k : ℕ) (c : Cell P) → k < length row → c ≡ getD row k c → reading st c ≡ cell (readings st row) k
 at-row st row k c h e = ap (reading st) e ∙ sym (getD-map (reading st) row k c no-cell h)
 
+-- an order that is answered stands in the row
+pub order-in-row : (K n k : ℕ) → Ok tt ≡ order-outcome K n k → k ≤ K
+order-in-row K n k e = go (leb k K) (leb→le k K) e
+  where
+    go : (t : Bool) → (T t → k ≤ K) → _≡_ {A = Result (Unit {0}) Refusal} (Ok tt) (by-answers t (leb k n)) → k ≤ K
+    go true f e = f tt
+    go false f e = ok-err e
+
 module _ (b : Making) (R : Rules (b .meaning)) (s : State) where
   by-step : (s′ : State) (c : Call) (a : Answer) → step b s c ≡ record { answer = a; then = s′ } → Called b s s′ c a
   by-step s′ c a e = record { answered = sym (ap (λ t. t .answer) e); then = sym (ap (λ t. t .then) e); law = call-law b R s c a (sym (ap (λ t. t .answer) e)) }
 
-  order-6 : (k : ℕ) (next : Step) → b .K < k → order-checked b s k next ≡ refuse s 6 []
-  order-6 k next h = passed _ _ _ (leb-no k (b .K) (λ e. omega arith))
+  order-refused : (k : ℕ) (next : Step) (r : Refusal) → Err r ≡ order-outcome (b .K) (s .held) k → order-checked b s k next ≡ record { answer = told-refusal r; then = s }
+  order-refused k next r e = go (leb k (b .K)) (leb k (s .held)) e
+    where
+      go : (t u : Bool) → Err r ≡ by-answers t u → cond t (cond u next (refuse s 7 [])) (refuse s 6 []) ≡ record { answer = told-refusal r; then = s }
+      go true true e = ok-err (sym e)
+      go true false e = ap (λ r. record { answer = told-refusal r; then = s }) (sym (err-is e))
+      go false u e = ap (λ r. record { answer = told-refusal r; then = s }) (sym (err-is e))
 
-  order-7 : (k : ℕ) (next : Step) → k ≤ b .K → s .held < k → order-checked b s k next ≡ refuse s 7 []
-  order-7 k next h l = taken _ _ _ (leb-yes k (b .K) h) ∙ passed _ _ _ (leb-no k (s .held) (λ e. omega arith))
-
-  order-ok : (k : ℕ) (next : Step) → k ≤ b .K → k ≤ s .held → order-checked b s k next ≡ next
-  order-ok k next h l = taken _ _ _ (leb-yes k (b .K) h) ∙ taken _ _ _ (leb-yes k (s .held) l)
+  order-passed : (k : ℕ) (next : Step) → Ok tt ≡ order-outcome (b .K) (s .held) k → order-checked b s k next ≡ next
+  order-passed k next e = go (leb k (b .K)) (leb k (s .held)) e
+    where
+      go : (t u : Bool) → _≡_ {A = Result (Unit {0}) Refusal} (Ok tt) (by-answers t u) → cond t (cond u next (refuse s 7 [])) (refuse s 6 []) ≡ next
+      go true true e = refl
+      go true false e = ok-err e
+      go false u e = ok-err e
 
   -- clearing
   pub clear-2 : eqb (s .out) 0 ≡ false → Called b s s clear (refused 2 [])
@@ -50,21 +77,85 @@ module _ (b : Making) (R : Rules (b .meaning)) (s : State) where
 
   -- asking
   module _ (k : ℕ) where
-    pub ask-6 : b .K < k → Called b s s (ask k) (refused 6 [])
+    pub ask-refused : (r : Refusal) → Err r ≡ order-outcome (b .K) (s .held) k → Called b s s (ask k) (told-refusal r)
     unfolding step
-    ask-6 h = by-step _ _ _ (order-6 k _ h)
+    ask-refused r e = by-step _ _ _ (order-refused k _ r e)
 
-    pub ask-7 : k ≤ b .K → s .held < k → Called b s s (ask k) (refused 7 [])
+    pub ask-8 : Ok tt ≡ order-outcome (b .K) (s .held) k → (c : Values) → c ≡ cell (s .row) k → (o : ℕ) → stopped o ≡ close (b .meaning) c (s .held) k → Called b s s (ask k) (refused 8 (o ∷ []))
     unfolding step
-    ask-7 h l = by-step _ _ _ (order-7 k _ h l)
+    ask-8 h c e o f = by-step _ _ _ (order-passed k _ h ∙ ap (λ t. ask-closed s t) (ap (λ c. close (b .meaning) c (s .held) k) (sym e) ∙ sym f))
 
-    pub ask-8 : k ≤ b .K → k ≤ s .held → (c : Values) → c ≡ cell (s .row) k → (o : ℕ) → stopped o ≡ close (b .meaning) c (s .held) k → Called b s s (ask k) (refused 8 (o ∷ []))
+    pub ask-ok : Ok tt ≡ order-outcome (b .K) (s .held) k → (c : Values) → c ≡ cell (s .row) k → (v e : ℤ) → done (record { value = v; bound = e }) ≡ close (b .meaning) c (s .held) k → Called b s s (ask k) (asked v e)
     unfolding step
-    ask-8 h l c e o f = by-step _ _ _ (order-ok k _ h l ∙ ap (λ t. ask-closed s t) (ap (λ c. close (b .meaning) c (s .held) k) (sym e) ∙ sym f))
+    ask-ok h c i v e f = by-step _ _ _ (order-passed k _ h ∙ ap (λ t. ask-closed s t) (ap (λ c. close (b .meaning) c (s .held) k) (sym i) ∙ sym f))
 
-    pub ask-ok : k ≤ b .K → k ≤ s .held → (c : Values) → c ≡ cell (s .row) k → (v e : ℤ) → done (record { value = v; bound = e }) ≡ close (b .meaning) c (s .held) k → Called b s s (ask k) (asked v e)
+  -- issuing
+  module _ (k : ℕ) where
+    pub issue-refused : (r : Refusal) → Err r ≡ order-outcome (b .K) (s .held) k → Called b s s (issue k) (told-refusal r)
     unfolding step
-    ask-ok h l c i v e f = by-step _ _ _ (order-ok k _ h l ∙ ap (λ t. ask-closed s t) (ap (λ c. close (b .meaning) c (s .held) k) (sym i) ∙ sym f))
+    issue-refused r e = by-step _ _ _ (order-refused k _ r e)
+
+    pub issue-9 : Ok tt ≡ order-outcome (b .K) (s .held) k → 32 ≤ s .out → Called b s s (issue k) (refused 9 [])
+    unfolding step
+    issue-9 h f = by-step _ _ _ (order-passed k _ h ∙ passed _ _ _ (ltb-no (s .out) 32 f))
+
+    pub issue-ok : Ok tt ≡ order-outcome (b .K) (s .held) k → s .out < 32 → (o : ℕ) → o ≡ suc (s .out) → Called b s (record { row = s .row; held = s .held; out = o }) (issue k) (issued (b .bench-number) k)
+    unfolding step
+    issue-ok h f o e = by-step _ _ _ (order-passed k _ h ∙ taken _ _ _ (ltb-yes (s .out) 32 f) ∙ ap (λ o. record { answer = issued (b .bench-number) k; then = record { row = s .row; held = s .held; out = o } }) (sym e))
+
+  -- withdrawing
+  module _ (n k : ℕ) where
+    pub withdraw-10 : question-out n (b .bench-number) (s .out) ≡ false → Called b s s (withdraw n k) (refused 10 [])
+    unfolding step
+    withdraw-10 h = by-step _ _ _ (passed _ _ _ h)
+
+    pub withdraw-ok : question-out n (b .bench-number) (s .out) ≡ true → Called b s (record { row = s .row; held = s .held; out = s .out - 1 }) (withdraw n k) withdrawn
+    unfolding step
+    withdraw-ok h = by-step _ _ _ (taken _ _ _ h)
+
+  -- marking
+  module _ (n k : ℕ) (claim tolerance : List ℕ) where
+    pub mark-step : (t : Step) → t ≡ step b s (mark n k claim tolerance) → Called b s (t .then) (mark n k claim tolerance) (t .answer)
+    mark-step t e = by-step _ _ _ (sym e)
+
+    pub mark-17 : (c : ℕ) → not-admitted c ≡ b .meaning .admit claim → record { answer = refused 17 (c ∷ []); then = s } ≡ step b s (mark n k claim tolerance)
+    unfolding step
+    mark-17 c e = ap (λ a. mark-admitted b s n k a (b .meaning .admit tolerance)) e
+
+    module _ (q : ℤ) (q-is : number q ≡ b .meaning .admit claim) where
+      pub mark-17-tolerance : (c : ℕ) → not-admitted c ≡ b .meaning .admit tolerance → record { answer = refused 17 (c ∷ []); then = s } ≡ step b s (mark n k claim tolerance)
+      unfolding step
+      mark-17-tolerance c e = ap (mark-tolerance b s n k q) e ∙ ap (λ a. mark-admitted b s n k a (b .meaning .admit tolerance)) q-is
+
+      pub mark-by-numbers : (T : ℤ) → number T ≡ b .meaning .admit tolerance → (t : Step) → t ≡ mark-numbers b s n k q T → t ≡ step b s (mark n k claim tolerance)
+      unfolding step
+      mark-by-numbers T T-is t e = e ∙ ap (mark-tolerance b s n k q) T-is ∙ ap (λ a. mark-admitted b s n k a (b .meaning .admit tolerance)) q-is
+
+  module _ (n k : ℕ) (q T : ℤ) where
+    pub numbers-10 : question-out n (b .bench-number) (s .out) ≡ false → record { answer = refused 10 []; then = s } ≡ mark-numbers b s n k q T
+    numbers-10 h = sym (passed _ _ _ h)
+
+    module _ (out : question-out n (b .bench-number) (s .out) ≡ true) where
+      pub numbers-refused : (r : Refusal) → Err r ≡ order-outcome (b .K) (s .held) k → record { answer = told-refusal r; then = s } ≡ mark-numbers b s n k q T
+      numbers-refused r e = sym (taken _ _ _ out ∙ order-refused k _ r e)
+
+      module _ (order : Ok tt ≡ order-outcome (b .K) (s .held) k) where
+        pub numbers-11 : false ≡ leZ (pos 0) T → record { answer = refused 11 []; then = s } ≡ mark-numbers b s n k q T
+        numbers-11 f = sym (taken _ _ _ out ∙ order-passed k _ order ∙ passed _ _ _ (sym f))
+
+        module _ (f : true ≡ leZ (pos 0) T) (c : Values) (i : c ≡ cell (s .row) k) where
+          on : (v : Trial Closed) → v ≡ close (b .meaning) c (s .held) k → mark-numbers b s n k q T ≡ mark-closed b s q T v
+          on v e = taken _ _ _ out ∙ order-passed k _ order ∙ taken _ _ _ (sym f) ∙ ap (mark-closed b s q T) (ap (λ c. close (b .meaning) c (s .held) k) (sym i) ∙ sym e)
+
+          pub numbers-8 : (o : ℕ) → stopped o ≡ close (b .meaning) c (s .held) k → record { answer = refused 8 (o ∷ []); then = s } ≡ mark-numbers b s n k q T
+          numbers-8 o e = sym (on (stopped o) e)
+
+          module _ (v : Closed) (e : done v ≡ close (b .meaning) c (s .held) k) where
+            pub numbers-12 : (o : ℕ) → stopped o ≡ verdict (b .meaning) v q T → record { answer = refused 12 (o ∷ []); then = s } ≡ mark-numbers b s n k q T
+            numbers-12 o j = sym (on (done v) e ∙ ap (mark-judged s) (sym j))
+
+            pub numbers-ok : (w : Verdict) → done w ≡ verdict (b .meaning) v q T → record { answer = marked w; then = record { row = s .row; held = s .held; out = s .out - 1 } } ≡ mark-numbers b s n k q T
+            numbers-ok w j = sym (on (done v) e ∙ ap (mark-judged s) (sym j))
 
   -- adding
   module _ (bytes : List ℕ) where

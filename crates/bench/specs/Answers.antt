@@ -1,15 +1,20 @@
 -- The answers of the bench's calls as answers of the definitions. Each refusal has its number and its details here, once.
+use mathlib.Core.Path.{_≡_}
 use mathlib.Core.List.{List, [], _∷_}
 use mathlib.Core.Option.{Option, none, some}
-use Prim.Native.Nat.{ℕ}
+use Prim.Native.Nat.{ℕ, _+_}
 use lib.IntN.{ℤ}
 use Rattle.std.specs.declared.result.Result.{Result}
 use Rattle.std.specs.declared.result.Result.the-variants.{Ok, Err}
 use Rattle.arithmetic.specs.Meaning.{Meaning, Number}
 use Rattle.arithmetic.specs.Causes.{cause-number}
-use Rattle.coefficients.specs.Calls.{Answer, added, cleared, asked, refused}
+use Rattle.coefficients.specs.Calls.{Answer, added, cleared, asked, issued, marked, withdrawn, refused}
+use Rattle.closing.specs.Closings.{told-verdict}
+use Rattle.closing.specs.declared.verdict.Verdict.{Verdict}
+use Rattle.bench.specs.declared.question.Question.{Question}
+use Rattle.bench.specs.declared.question.GivenBack.{GivenBack}
 use Rattle.bench.specs.declared.refusal.Refusal.{Refusal}
-use Rattle.bench.specs.declared.refusal.Refusal.the-variants.{RowLength, QuestionOut, Full, ZeroOutOfLimits, AddingOutOfRange, OrderAboveRow, OrderAboveZeros, ClosingOutOfRange, NotAdmitted}
+use Rattle.bench.specs.declared.refusal.Refusal.the-variants.{RowLength, QuestionOut, Full, ZeroOutOfLimits, AddingOutOfRange, OrderAboveRow, OrderAboveZeros, ClosingOutOfRange, TooManyOut, NotOut, ToleranceBelowZero, JudgingOutOfRange, NotAdmitted}
 
 abbrev pub told-refusal : Refusal → Answer
 told-refusal RowLength = refused 1 []
@@ -20,6 +25,10 @@ told-refusal (AddingOutOfRange at) = refused 5 (at .order ∷ at .operation ∷ 
 told-refusal OrderAboveRow = refused 6 []
 told-refusal OrderAboveZeros = refused 7 []
 told-refusal (ClosingOutOfRange operation) = refused 8 (operation ∷ [])
+told-refusal TooManyOut = refused 9 []
+told-refusal NotOut = refused 10 []
+told-refusal ToleranceBelowZero = refused 11 []
+told-refusal (JudgingOutOfRange operation) = refused 12 (operation ∷ [])
 told-refusal (NotAdmitted cause) = refused 17 (cause-number cause ∷ [])
 
 -- whether a row will do: the refusal, if there is one
@@ -43,3 +52,29 @@ told-asked value (Err r) = told-refusal r
 abbrev pub Asked-numbers : {N : Type 0} → Meaning → (N → ℤ) → Result (N × N) Refusal → Type 0
 Asked-numbers m value (Ok p) = Number m (value (p .0)) × Number m (value (p .1))
 Asked-numbers m value (Err r) = Unit {0}
+
+abbrev pub told-issued : Result Question Refusal → Answer
+told-issued (Ok q) = issued (q .bench) (q .order)
+told-issued (Err r) = told-refusal r
+
+abbrev pub told-marked : Result Verdict GivenBack → Answer
+told-marked (Ok v) = marked (told-verdict v)
+told-marked (Err b) = told-refusal (b .refusal)
+
+abbrev pub told-withdrawn : Result (Unit {0}) GivenBack → Answer
+told-withdrawn (Ok u) = withdrawn
+told-withdrawn (Err b) = told-refusal (b .refusal)
+
+-- a refusal gives the question back
+abbrev pub Gives-back : {X : Type 0} → Question → Result X GivenBack → Type 0
+Gives-back q (Ok x) = Unit {0}
+Gives-back q (Err b) = b .question ≡ q
+
+-- the count of questions out: one more where one is issued, one less where one is spent, the same where the call is refused
+abbrev pub One-more : {X Y : Type 0} → Result X Y → ℕ → ℕ → Type 0
+One-more (Ok x) out out′ = out′ ≡ out + 1
+One-more (Err y) out out′ = out′ ≡ out
+
+abbrev pub One-less : {X Y : Type 0} → Result X Y → ℕ → ℕ → Type 0
+One-less (Ok x) out out′ = out′ + 1 ≡ out
+One-less (Err y) out out′ = out′ ≡ out

@@ -8,20 +8,27 @@ ghost use lib.Dec.{eqb};
 ghost use lib.ListN.{length, getD};
 ghost use denote.Ref.{name};
 ghost use Rattle.coefficients.specs.Row.{new-row};
-ghost use Rattle.coefficients.specs.Calls.{row-refusal, new-bench, add as add-call, clear as clear-call, ask as ask-call};
+ghost use Rattle.coefficients.specs.Calls.{row-refusal, new-bench, step, mark-numbers, add as add-call, clear as clear-call, ask as ask-call, issue as issue-call, mark as mark-call, withdraw as withdraw-call};
 ghost use Rattle.coefficients.specs.Book.{accepted};
 ghost use Rattle.coefficients.specs.Law.{Book-law};
 ghost use Rattle.row.specs.Reading.{plain-cell};
-ghost use Rattle.bench.specs.Answers.{told-row, told-added, told-cleared, told-asked, Asked-numbers};
+ghost use Rattle.bench.specs.Answers.{told-row, told-added, told-cleared, told-asked, Asked-numbers, told-issued, told-marked, told-withdrawn, Gives-back, One-more, One-less};
+ghost use Rattle.arithmetic.specs.Meaning.{Number as IsNumber};
+ghost use Rattle.bench.specs.Asking.{order-outcome, question-out, marking-step, Judged-out};
 ghost use Rattle.bench.specs.Benches.{making-of, state-of, Standing, Called, Keeps, Addition-leaves, Clearing-leaves};
 use arithmetic::Arithmetic;
 use closing::close;
+use closing::judge;
+use closing::verdict::Verdict;
+use question::GivenBack;
+use question::Question;
 use refusal::Refusal;
 use refusal::RefusalOfCause;
 use refusal::RefusalOfRange;
 use row::cell::Cell;
 use row::renew;
 
+pub mod question;
 pub mod refusal;
 
 // A bench: the row that the caller lends, the caller's number for it, the count of zeros held and of questions out.
@@ -156,6 +163,27 @@ impl<'r, A: Arithmetic> Bench<'r, A> {
         Ok(())
     }
 
+    // Questions 6 and 7: is k at most K, and at most n, the count of zeros held?
+    fn check_order(&self, k: u8, n: u8) -> Result<(), Refusal>
+        requires { ⌜ Standing (now self) ⌝ }
+        ensures { λ r. ⌜ r ≡ order-outcome (length (now (now (self .entry) .row)) - 1) n k ⌝ }
+    {
+        if (k as usize) > self.row.len() - 1 {
+            return Err(Refusal::OrderAboveRow);
+        }
+        if k > n {
+            return Err(Refusal::OrderAboveZeros);
+        }
+        Ok(())
+    }
+
+    // Question 10: has the question this bench's number, and is one out?
+    fn is_out(&self, question: &Question) -> bool
+        ensures { λ r. ⌜ r ≡ question-out (now (question .entry) .bench) (now (self .entry) .number) (now (self .entry) .out) ⌝ }
+    {
+        question.bench == self.number && self.out > 0
+    }
+
     // The value and the error bound of the coefficient of order k. Refusals: 6, 7, 8.
     pub fn ask(&self, arith: &mut A, k: u8) -> Result<(A::Number, A::Number), Refusal>
         requires law { ⌜ A·Arithmetic .lawful (now arith) ⌝ }
@@ -178,16 +206,164 @@ impl<'r, A: Arithmetic> Bench<'r, A> {
         ensures same { λ _. ⌜ A·Arithmetic .setting (now (arith .exit)) ≡ A·Arithmetic .setting (now (arith .entry)) ⌝ }
         ensures law { λ _. ⌜ A·Arithmetic .lawful (now (arith .exit)) ⌝ }
     {
-        if (k as usize) > self.row.len() - 1 {
-            return Err(Refusal::OrderAboveRow);
-        }
-        if k > n {
-            return Err(Refusal::OrderAboveZeros);
-        }
+        self.check_order(k, n)?;
         let cell = cell_at(self.row, k as usize);
         match close(arith, cell, n, k) {
             Ok(coefficient) => Ok(coefficient),
             Err(operation) => Err(Refusal::ClosingOutOfRange { operation }),
         }
+    }
+
+    // Issues a question of order k. Refusals: 6, 7, 9.
+    pub fn issue(&mut self, arith: &A, k: u8) -> Result<Question, Refusal>
+        requires law { ⌜ A·Arithmetic .lawful (now arith) ⌝ }
+        requires standing { ⌜ Standing (now self) ⌝ }
+        ensures called { λ r. ⌜ Called (making-of (A·Arithmetic .setting (now (arith .entry))) (now (self .entry))) (state-of (A·Arithmetic .setting (now (arith .entry))) (now (self .entry))) (state-of (A·Arithmetic .setting (now (arith .entry))) (now (self .exit))) (issue-call k) (told-issued r) ⌝ }
+        ensures cells { λ _. ⌜ now (now (self .exit) .row) ≡ now (now (self .entry) .row) ⌝ }
+        ensures keeps { λ _. ⌜ Keeps (A·Arithmetic .setting (now (arith .entry))) (now (self .entry)) (now (self .exit)) ⌝ }
+        ensures lender { λ _. ⌜ name (now (self .exit) .row) ≡ name (now (self .entry) .row) ⌝ }
+        ensures counts { λ r. ⌜ One-more r (now (self .entry) .out) (now (self .exit) .out) ⌝ }
+    {
+        let held = self.held;
+        self.issue_among(arith, k, held)
+    }
+
+    // Issues a question, where n zeros are held.
+    fn issue_among(&mut self, arith: &A, k: u8, n: u8) -> Result<Question, Refusal>
+        requires law { ⌜ A·Arithmetic .lawful (now arith) ⌝ }
+        requires standing { ⌜ Standing (now self) ⌝ }
+        requires held { ⌜ n ≡ now self .held ⌝ }
+        ensures called { λ r. ⌜ Called (making-of (A·Arithmetic .setting (now (arith .entry))) (now (self .entry))) (state-of (A·Arithmetic .setting (now (arith .entry))) (now (self .entry))) (state-of (A·Arithmetic .setting (now (arith .entry))) (now (self .exit))) (issue-call k) (told-issued r) ⌝ }
+        ensures cells { λ _. ⌜ now (now (self .exit) .row) ≡ now (now (self .entry) .row) ⌝ }
+        ensures keeps { λ _. ⌜ Keeps (A·Arithmetic .setting (now (arith .entry))) (now (self .entry)) (now (self .exit)) ⌝ }
+        ensures lender { λ _. ⌜ name (now (self .exit) .row) ≡ name (now (self .entry) .row) ⌝ }
+        ensures counts { λ r. ⌜ One-more r (now (self .entry) .out) (now (self .exit) .out) ⌝ }
+    {
+        self.check_order(k, n)?;
+        if self.out >= 32 {
+            return Err(Refusal::TooManyOut);
+        }
+        self.out += 1;
+        Ok(Question { bench: self.number, order: k })
+    }
+
+    // Marks a question with a claim and a tolerance, given by their eight bytes. Refusals: 17, 10, 6, 7, 11, 8, 12; each gives the
+    // question back.
+    pub fn mark(&mut self, arith: &mut A, question: Question, claim: &[u8; 8], tolerance: &[u8; 8]) -> Result<Verdict, GivenBack>
+        requires law { ⌜ A·Arithmetic .lawful (now arith) ⌝ }
+        requires standing { ⌜ Standing (now self) ⌝ }
+        ensures called { λ r. ⌜ Called (making-of (A·Arithmetic .setting (now (arith .entry))) (now (self .entry))) (state-of (A·Arithmetic .setting (now (arith .entry))) (now (self .entry))) (state-of (A·Arithmetic .setting (now (arith .entry))) (now (self .exit))) (mark-call (question .bench) (question .order) (now (claim .entry)) (now (tolerance .entry))) (told-marked r) ⌝ }
+        ensures back { λ r. ⌜ Gives-back question r ⌝ }
+        ensures cells { λ _. ⌜ now (now (self .exit) .row) ≡ now (now (self .entry) .row) ⌝ }
+        ensures keeps { λ _. ⌜ Keeps (A·Arithmetic .setting (now (arith .entry))) (now (self .entry)) (now (self .exit)) ⌝ }
+        ensures lender { λ _. ⌜ name (now (self .exit) .row) ≡ name (now (self .entry) .row) ⌝ }
+        ensures counts { λ r. ⌜ One-less r (now (self .entry) .out) (now (self .exit) .out) ⌝ }
+        ensures same { λ _. ⌜ A·Arithmetic .setting (now (arith .exit)) ≡ A·Arithmetic .setting (now (arith .entry)) ⌝ }
+        ensures law { λ _. ⌜ A·Arithmetic .lawful (now (arith .exit)) ⌝ }
+    {
+        self.mark_admitted(arith, question, claim, tolerance)
+    }
+
+    // Marks a question: spends it where the claim is judged, gives it back where the marking is refused.
+    fn mark_admitted(&mut self, arith: &mut A, question: Question, claim: &[u8; 8], tolerance: &[u8; 8]) -> Result<Verdict, GivenBack>
+        requires law { ⌜ A·Arithmetic .lawful (now arith) ⌝ }
+        requires standing { ⌜ Standing (now self) ⌝ }
+        ensures called { λ r. ⌜ Called (making-of (A·Arithmetic .setting (now (arith .entry))) (now (self .entry))) (state-of (A·Arithmetic .setting (now (arith .entry))) (now (self .entry))) (state-of (A·Arithmetic .setting (now (arith .entry))) (now (self .exit))) (mark-call (question .bench) (question .order) (now (claim .entry)) (now (tolerance .entry))) (told-marked r) ⌝ }
+        ensures back { λ r. ⌜ Gives-back question r ⌝ }
+        ensures cells { λ _. ⌜ now (now (self .exit) .row) ≡ now (now (self .entry) .row) ⌝ }
+        ensures keeps { λ _. ⌜ Keeps (A·Arithmetic .setting (now (arith .entry))) (now (self .entry)) (now (self .exit)) ⌝ }
+        ensures lender { λ _. ⌜ name (now (self .exit) .row) ≡ name (now (self .entry) .row) ⌝ }
+        ensures counts { λ r. ⌜ One-less r (now (self .entry) .out) (now (self .exit) .out) ⌝ }
+        ensures same { λ _. ⌜ A·Arithmetic .setting (now (arith .exit)) ≡ A·Arithmetic .setting (now (arith .entry)) ⌝ }
+        ensures law { λ _. ⌜ A·Arithmetic .lawful (now (arith .exit)) ⌝ }
+    {
+        match self.judge_claim(arith, &question, claim, tolerance) {
+            Ok(verdict) => {
+                let _ = question.spend();
+                self.out -= 1;
+                Ok(verdict)
+            }
+            Err(refusal) => Err(GivenBack { question, refusal }),
+        }
+    }
+
+    // The verdict on a claim given by its eight bytes, as are the tolerances.
+    fn judge_claim(&self, arith: &mut A, question: &Question, claim: &[u8; 8], tolerance: &[u8; 8]) -> Result<Verdict, Refusal>
+        requires law { ⌜ A·Arithmetic .lawful (now arith) ⌝ }
+        requires standing { ⌜ Standing (now self) ⌝ }
+        ensures step { λ r. ⌜ marking-step (state-of (A·Arithmetic .setting (now (arith .entry))) (now (self .entry))) r ≡ step (making-of (A·Arithmetic .setting (now (arith .entry))) (now (self .entry))) (state-of (A·Arithmetic .setting (now (arith .entry))) (now (self .entry))) (mark-call (now (question .entry) .bench) (now (question .entry) .order) (now (claim .entry)) (now (tolerance .entry))) ⌝ }
+        ensures out { λ r. ⌜ Judged-out r (now (self .entry) .out) ⌝ }
+        ensures same { λ _. ⌜ A·Arithmetic .setting (now (arith .exit)) ≡ A·Arithmetic .setting (now (arith .entry)) ⌝ }
+        ensures law { λ _. ⌜ A·Arithmetic .lawful (now (arith .exit)) ⌝ }
+    {
+        let claimed = arith.admit(claim)?;
+        let allowed = arith.admit(tolerance)?;
+        self.judge_numbers(arith, question, claimed, allowed)
+    }
+
+    // The verdict on a claim, as numbers.
+    fn judge_numbers(&self, arith: &mut A, question: &Question, claim: A::Number, tolerance: A::Number) -> Result<Verdict, Refusal>
+        requires law { ⌜ A·Arithmetic .lawful (now arith) ⌝ }
+        requires standing { ⌜ Standing (now self) ⌝ }
+        requires claim { ⌜ IsNumber (A·Arithmetic .setting (now arith) .meaning) (A·Arithmetic .value claim) ⌝ }
+        requires tolerance { ⌜ IsNumber (A·Arithmetic .setting (now arith) .meaning) (A·Arithmetic .value tolerance) ⌝ }
+        ensures step { λ r. ⌜ marking-step (state-of (A·Arithmetic .setting (now (arith .entry))) (now (self .entry))) r ≡ mark-numbers (making-of (A·Arithmetic .setting (now (arith .entry))) (now (self .entry))) (state-of (A·Arithmetic .setting (now (arith .entry))) (now (self .entry))) (now (question .entry) .bench) (now (question .entry) .order) (A·Arithmetic .value claim) (A·Arithmetic .value tolerance) ⌝ }
+        ensures out { λ r. ⌜ Judged-out r (now (self .entry) .out) ⌝ }
+        ensures same { λ _. ⌜ A·Arithmetic .setting (now (arith .exit)) ≡ A·Arithmetic .setting (now (arith .entry)) ⌝ }
+        ensures law { λ _. ⌜ A·Arithmetic .lawful (now (arith .exit)) ⌝ }
+    {
+        if !self.is_out(question) {
+            return Err(Refusal::NotOut);
+        }
+        let k = question.order;
+        self.check_order(k, self.held)?;
+        let natural = arith.at_most(arith.zero(), tolerance);
+        if !natural {
+            return Err(Refusal::ToleranceBelowZero);
+        }
+        let cell = cell_at(self.row, k as usize);
+        let coefficient = match close(arith, cell, self.held, k) {
+            Ok(coefficient) => coefficient,
+            Err(operation) => return Err(Refusal::ClosingOutOfRange { operation }),
+        };
+        match judge(arith, coefficient, claim, tolerance) {
+            Ok(verdict) => Ok(verdict),
+            Err(operation) => Err(Refusal::JudgingOutOfRange { operation }),
+        }
+    }
+
+    // Withdraws a question. Refusal: 10, which gives the question back.
+    pub fn withdraw(&mut self, arith: &A, question: Question) -> Result<(), GivenBack>
+        requires law { ⌜ A·Arithmetic .lawful (now arith) ⌝ }
+        requires standing { ⌜ Standing (now self) ⌝ }
+        ensures called { λ r. ⌜ Called (making-of (A·Arithmetic .setting (now (arith .entry))) (now (self .entry))) (state-of (A·Arithmetic .setting (now (arith .entry))) (now (self .entry))) (state-of (A·Arithmetic .setting (now (arith .entry))) (now (self .exit))) (withdraw-call (question .bench) (question .order)) (told-withdrawn r) ⌝ }
+        ensures back { λ r. ⌜ Gives-back question r ⌝ }
+        ensures cells { λ _. ⌜ now (now (self .exit) .row) ≡ now (now (self .entry) .row) ⌝ }
+        ensures keeps { λ _. ⌜ Keeps (A·Arithmetic .setting (now (arith .entry))) (now (self .entry)) (now (self .exit)) ⌝ }
+        ensures lender { λ _. ⌜ name (now (self .exit) .row) ≡ name (now (self .entry) .row) ⌝ }
+        ensures counts { λ r. ⌜ One-less r (now (self .entry) .out) (now (self .exit) .out) ⌝ }
+    {
+        let out = self.is_out(&question);
+        self.withdraw_if(arith, question, out)
+    }
+
+    // Withdraws a question that is out.
+    fn withdraw_if(&mut self, arith: &A, question: Question, out: bool) -> Result<(), GivenBack>
+        requires law { ⌜ A·Arithmetic .lawful (now arith) ⌝ }
+        requires standing { ⌜ Standing (now self) ⌝ }
+        requires out { ⌜ out ≡ question-out (question .bench) (now self .number) (now self .out) ⌝ }
+        ensures called { λ r. ⌜ Called (making-of (A·Arithmetic .setting (now (arith .entry))) (now (self .entry))) (state-of (A·Arithmetic .setting (now (arith .entry))) (now (self .entry))) (state-of (A·Arithmetic .setting (now (arith .entry))) (now (self .exit))) (withdraw-call (question .bench) (question .order)) (told-withdrawn r) ⌝ }
+        ensures back { λ r. ⌜ Gives-back question r ⌝ }
+        ensures cells { λ _. ⌜ now (now (self .exit) .row) ≡ now (now (self .entry) .row) ⌝ }
+        ensures keeps { λ _. ⌜ Keeps (A·Arithmetic .setting (now (arith .entry))) (now (self .entry)) (now (self .exit)) ⌝ }
+        ensures lender { λ _. ⌜ name (now (self .exit) .row) ≡ name (now (self .entry) .row) ⌝ }
+        ensures counts { λ r. ⌜ One-less r (now (self .entry) .out) (now (self .exit) .out) ⌝ }
+    {
+        if !out {
+            return Err(GivenBack { question, refusal: Refusal::NotOut });
+        }
+        let _ = question.spend();
+        self.out -= 1;
+        Ok(())
     }
 }

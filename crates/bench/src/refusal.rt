@@ -22,6 +22,14 @@ pub enum Refusal {
     OrderAboveZeros,
     // 8: an operation of the closing leaves its range
     ClosingOutOfRange { operation: u8 },
+    // 9: 32 questions are out
+    TooManyOut,
+    // 10: the question has another bench number, or none is out
+    NotOut,
+    // 11: the tolerance is below 0
+    ToleranceBelowZero,
+    // 12: an operation of the verdict leaves its range
+    JudgingOutOfRange { operation: u8 },
     // 17: eight bytes are no number
     NotAdmitted(Cause),
 }

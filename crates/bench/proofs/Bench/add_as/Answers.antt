@@ -4,12 +4,13 @@ use Prim.Native.Nat.{_-_, min}
 use native.Mathlib.Omega.{arith}
 use lib.ListN.{length}
 use Rattle.row.specs.Reading.{readings}
+use Rattle.bench.specs.Answers.{told-added}
 use Rattle.bench.proofs.Steps.{add-17, add-2, add-3, add-4, add-5, add-ok}
 use Rattle.bench.proofs.Exits.{told-err, called-as, keeps-all, keeps-long, leaves-all, leaves-others}
 use Rattle.bench.proofs.Bench.add_as.Needs as need
 
 pub returns-in-Break-x : need.returns-in-Break-x
-returns-in-Break-x g c = record { called = called-as _ (told-err _ _ (c .from-residual .ensures .1)) (add-17 _ (g .A·Arithmetic·met .rules _ (c .pre .law)) _ _ _ (c .in-Break-x .ensures tt .answer)); cells = leaves-all _ _ _ _ refl; keeps = keeps-all _ _ (c .pre .standing); lender = refl; same = refl; law = c .pre .law }
+returns-in-Break-x g c = record { called = called-as _ (told-err told-added (λ e. refl) _ _ (c .from-residual .ensures .1)) (add-17 _ (g .A·Arithmetic·met .rules _ (c .pre .law)) _ _ _ (c .in-Break-x .ensures tt .answer)); cells = leaves-all _ _ _ _ refl; keeps = keeps-all _ _ (c .pre .standing); lender = refl; same = refl; law = c .pre .law }
 
 pub returns-then-self-gt0 : need.returns-then-self-gt0
 returns-then-self-gt0 g c = record { called = add-2 _ (g .A·Arithmetic·met .rules _ (c .pre .law)) _ _ _ (c .in-Continue-x .ensures tt .answer) (omega arith); cells = leaves-all _ _ _ _ refl; keeps = keeps-all _ _ (c .pre .standing); lender = refl; same = refl; law = c .pre .law }
@@ -25,7 +26,7 @@ returns-in-Break-add g c =
     let e = c .in-Break-add .ensures tt in
     let st = g .A·Arithmetic .setting (c .args .arith .now) in
     record {
-      called = called-as _ (told-err _ _ (c .from-residual-in-Break-add .ensures .1)) (add-5 _ (g .A·Arithmetic·met .rules _ (c .pre .law)) _ _ _ (c .in-Continue-x .ensures tt .answer) (omega arith) (omega (arith, c .pre .next)) (c .if-not-fits .ensures tt) _ (ap (λ i. min i (length (c .args .self .now .row .now) - 1)) (c .pre .next)) _ _ (e .cells .defined) _ (ap (readings st) (e .cells .refused refl)));
+      called = called-as _ (told-err told-added (λ e. refl) _ _ (c .from-residual-in-Break-add .ensures .1)) (add-5 _ (g .A·Arithmetic·met .rules _ (c .pre .law)) _ _ _ (c .in-Continue-x .ensures tt .answer) (omega arith) (omega (arith, c .pre .next)) (c .if-not-fits .ensures tt) _ (ap (λ i. min i (length (c .args .self .now .row .now) - 1)) (c .pre .next)) _ _ (e .cells .defined) _ (ap (readings st) (e .cells .refused refl)));
       cells = leaves-all _ _ _ _ (e .cells .refused refl);
       keeps = keeps-long st _ _ (c .pre .standing) refl (e .cells .long) (c .pre .standing .few-held) (c .pre .standing .few-out); lender = refl; same = e .same; law = e .law }
 
