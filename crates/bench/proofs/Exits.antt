@@ -19,10 +19,11 @@ use Rattle.coefficients.specs.Calls.{Making, State, Call, Answer}
 use Rattle.row.specs.declared.cell.Cell.{Cell}
 use Rattle.row.specs.Reading.{plain-cell}
 use Rattle.closing.specs.declared.verdict.Verdict.{Verdict}
-use Rattle.bench.specs.Answers.{told-refusal, Asked-numbers, One-more}
+use Rattle.bench.specs.Answers.{told-refusal, Asked-numbers, Issued-for, One-more}
 use Rattle.bench.specs.Asking.{order-outcome, question-out, marking-step, Judged-out}
 use Rattle.bench.specs.Benches.{making-of, Standing, Called, Keeps, Addition-leaves, Clearing-leaves}
 use Rattle.bench.specs.declared.Bench.{Bench}
+use Rattle.bench.specs.declared.question.Question.{Question}
 use Rattle.bench.specs.declared.refusal.Refusal.{Refusal}
 
 not-false : {Y : Type 0} → true ≡ false → Y
@@ -41,6 +42,10 @@ pub no-more : {X : Type 0} (r : Result X Refusal) (out : ℕ) → isErr r ≡ tr
 no-more (Ok x) out h = not-false (sym h)
 no-more (Err e) out h = refl
 
+pub not-issued : (bench k : ℕ) (r : Result Question Refusal) → isErr r ≡ true → Issued-for bench k r
+not-issued bench k (Ok q) h = not-false (sym h)
+not-issued bench k (Err e) h = tt
+
 pub judged-none : (s : State) (r : Result Verdict Refusal) (x : Refusal) → ErrBy r (λ e. e ≡ x) → (marking-step s r ≡ record { answer = told-refusal x; then = s }) × Judged-out r (s .out)
 judged-none s (Ok v) x h = absurd h
 judged-none s (Err e) x h = (ap (λ e. record { answer = told-refusal e; then = s }) h, tt)
@@ -54,12 +59,13 @@ called-as {b} {s} {s′} {call} told e c = subst (Called b s s′ call) (sym e) 
 
 -- a call that changes nothing
 pub keeps-all : {A N P : Type 0} (st : Setting P) (b : Bench A N P) → Standing b → Keeps st b b
-keeps-all st b h = record { making = refl; long = refl; standing = h }
+keeps-all st b h = record { making = refl; number = refl; long = refl; standing = h }
 
 -- a call that changes cells and counts
 pub keeps-long : {A N P : Type 0} (st : Setting P) (b b′ : Bench A N P) → Standing b → b′ .number ≡ b .number → length (b′ .row .now) ≡ length (b .row .now) → b′ .held ≤ 64 → b′ .out ≤ 32 → Keeps st b b′
 keeps-long st b b′ h n l few out = record {
     making = ap (λ n. record { meaning = st .meaning; bench-number = n; K = length (b′ .row .now) - 1 }) n ∙ ap (λ l. record { meaning = st .meaning; bench-number = b .number; K = l - 1 }) l;
+    number = n;
     long = l;
     standing = record { some-cells = omega (arith, h .some-cells, l); few-cells = omega (arith, h .few-cells, l); few-held = few; few-out = out } }
 

@@ -1,5 +1,6 @@
 -- The answers of the bench's calls as answers of the definitions. Each refusal has its number and its details here, once.
 use mathlib.Core.Path.{_≡_}
+use mathlib.Core.Bool.{Bool, true, false}
 use mathlib.Core.List.{List, [], _∷_}
 use mathlib.Core.Option.{Option, none, some}
 use Prim.Native.Nat.{ℕ, _+_}
@@ -78,3 +79,13 @@ One-more (Err y) out out′ = out′ ≡ out
 abbrev pub One-less : {X Y : Type 0} → Result X Y → ℕ → ℕ → Type 0
 One-less (Ok x) out out′ = out′ + 1 ≡ out
 One-less (Err y) out out′ = out′ ≡ out
+
+-- an issued question has the bench's number and the order asked for
+abbrev pub Issued-for : ℕ → ℕ → Result Question Refusal → Type 0
+Issued-for bench k (Ok q) = (q .bench ≡ bench) × (q .order ≡ k)
+Issued-for bench k (Err r) = Unit {0}
+
+-- a withdrawal is refused exactly when the question is not out
+abbrev pub Withdrawn-if : Bool → Result (Unit {0}) GivenBack → Type 0
+Withdrawn-if out (Ok u) = out ≡ true
+Withdrawn-if out (Err b) = out ≡ false

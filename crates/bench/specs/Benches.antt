@@ -36,6 +36,7 @@ pub record Called (b : Making) (s s′ : State) (call : Call) (answer : Answer) 
 -- what every call keeps: what the bench was made with, the length of its row, and its standing condition
 pub record Keeps {A N P : Type 0} (st : Setting P) (b b′ : Bench A N P) : Type 0 where
   pub making : making-of st b′ ≡ making-of st b
+  pub number : b′ .number ≡ b .number
   pub long : length (b′ .row .now) ≡ length (b .row .now)
   pub standing : Standing b′
 

@@ -12,7 +12,7 @@ ghost use Rattle.coefficients.specs.Calls.{row-refusal, new-bench, step, mark-n
 ghost use Rattle.coefficients.specs.Book.{accepted};
 ghost use Rattle.coefficients.specs.Law.{Book-law};
 ghost use Rattle.row.specs.Reading.{plain-cell};
-ghost use Rattle.bench.specs.Answers.{told-row, told-added, told-cleared, told-asked, Asked-numbers, told-issued, told-marked, told-withdrawn, Gives-back, One-more, One-less};
+ghost use Rattle.bench.specs.Answers.{told-row, told-added, told-cleared, told-asked, Asked-numbers, told-issued, told-marked, told-withdrawn, Gives-back, Issued-for, Withdrawn-if, One-more, One-less};
 ghost use Rattle.arithmetic.specs.Meaning.{Number as IsNumber};
 ghost use Rattle.bench.specs.Asking.{order-outcome, question-out, marking-step, Judged-out};
 ghost use Rattle.bench.specs.Benches.{making-of, state-of, Standing, Called, Keeps, Addition-leaves, Clearing-leaves};
@@ -222,6 +222,7 @@ impl<'r, A: Arithmetic> Bench<'r, A> {
         ensures cells { λ _. ⌜ now (now (self .exit) .row) ≡ now (now (self .entry) .row) ⌝ }
         ensures keeps { λ _. ⌜ Keeps (A·Arithmetic .setting (now (arith .entry))) (now (self .entry)) (now (self .exit)) ⌝ }
         ensures lender { λ _. ⌜ name (now (self .exit) .row) ≡ name (now (self .entry) .row) ⌝ }
+        ensures question { λ r. ⌜ Issued-for (now (self .entry) .number) k r ⌝ }
         ensures counts { λ r. ⌜ One-more r (now (self .entry) .out) (now (self .exit) .out) ⌝ }
     {
         let held = self.held;
@@ -237,6 +238,7 @@ impl<'r, A: Arithmetic> Bench<'r, A> {
         ensures cells { λ _. ⌜ now (now (self .exit) .row) ≡ now (now (self .entry) .row) ⌝ }
         ensures keeps { λ _. ⌜ Keeps (A·Arithmetic .setting (now (arith .entry))) (now (self .entry)) (now (self .exit)) ⌝ }
         ensures lender { λ _. ⌜ name (now (self .exit) .row) ≡ name (now (self .entry) .row) ⌝ }
+        ensures question { λ r. ⌜ Issued-for (now (self .entry) .number) k r ⌝ }
         ensures counts { λ r. ⌜ One-more r (now (self .entry) .out) (now (self .exit) .out) ⌝ }
     {
         self.check_order(k, n)?;
@@ -341,6 +343,7 @@ impl<'r, A: Arithmetic> Bench<'r, A> {
         ensures cells { λ _. ⌜ now (now (self .exit) .row) ≡ now (now (self .entry) .row) ⌝ }
         ensures keeps { λ _. ⌜ Keeps (A·Arithmetic .setting (now (arith .entry))) (now (self .entry)) (now (self .exit)) ⌝ }
         ensures lender { λ _. ⌜ name (now (self .exit) .row) ≡ name (now (self .entry) .row) ⌝ }
+        ensures spent { λ r. ⌜ Withdrawn-if (question-out (question .bench) (now (self .entry) .number) (now (self .entry) .out)) r ⌝ }
         ensures counts { λ r. ⌜ One-less r (now (self .entry) .out) (now (self .exit) .out) ⌝ }
     {
         let out = self.is_out(&question);
@@ -357,6 +360,7 @@ impl<'r, A: Arithmetic> Bench<'r, A> {
         ensures cells { λ _. ⌜ now (now (self .exit) .row) ≡ now (now (self .entry) .row) ⌝ }
         ensures keeps { λ _. ⌜ Keeps (A·Arithmetic .setting (now (arith .entry))) (now (self .entry)) (now (self .exit)) ⌝ }
         ensures lender { λ _. ⌜ name (now (self .exit) .row) ≡ name (now (self .entry) .row) ⌝ }
+        ensures spent { λ r. ⌜ Withdrawn-if (question-out (question .bench) (now (self .entry) .number) (now (self .entry) .out)) r ⌝ }
         ensures counts { λ r. ⌜ One-less r (now (self .entry) .out) (now (self .exit) .out) ⌝ }
     {
         if !out {
