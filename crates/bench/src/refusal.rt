@@ -3,6 +3,7 @@ ghost use mathlib.Core.Path.{_≡_};
 ghost use Rattle.bench.specs.declared.refusal.Refusal.the-variants.{AddingOutOfRange, NotAdmitted};
 use arithmetic::cause::Cause;
 use row::cell::OutOfRange;
+use std::fmt;
 
 #[derive(Clone, Copy)]
 pub enum Refusal {
@@ -47,5 +48,33 @@ pub impl From<OutOfRange> for Refusal as RefusalOfRange {
 
     fn from(at: OutOfRange) -> Refusal {
         Refusal::AddingOutOfRange(at)
+    }
+}
+
+// A refusal's number, then its details.
+pub impl fmt::Display for Refusal as RefusalDisplay {
+    fn fmt<W: fmt::Write>(&self, f: &mut fmt::Formatter<W>) -> fmt::Result {
+        match *self {
+            Refusal::RowLength => write!(f, "1"),
+            Refusal::QuestionOut => write!(f, "2"),
+            Refusal::Full => write!(f, "3"),
+            Refusal::ZeroOutOfLimits => write!(f, "4"),
+            Refusal::AddingOutOfRange(at) => {
+                let order = at.order;
+                let operation = at.operation;
+                write!(f, "5 {order} {operation}")
+            }
+            Refusal::OrderAboveRow => write!(f, "6"),
+            Refusal::OrderAboveZeros => write!(f, "7"),
+            Refusal::ClosingOutOfRange { operation } => write!(f, "8 {operation}"),
+            Refusal::TooManyOut => write!(f, "9"),
+            Refusal::NotOut => write!(f, "10"),
+            Refusal::ToleranceBelowZero => write!(f, "11"),
+            Refusal::JudgingOutOfRange { operation } => write!(f, "12 {operation}"),
+            Refusal::NotAdmitted(cause) => {
+                let number = cause.number();
+                write!(f, "17 {number}")
+            }
+        }
     }
 }

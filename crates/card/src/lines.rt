@@ -1,5 +1,7 @@
 // The lines that are printed, one for each call.
 use bench::refusal::Refusal;
+use bench::refusal::RefusalDisplay;
+use closing::verdict::Verdict;
 use std::fmt;
 
 #[derive(Drop)]
@@ -8,6 +10,8 @@ pub enum Line {
     Zero(u8),
     // an order, and the eight bytes of its value and of its bound
     Coefficient { order: u8, value: [u8; 8], bound: [u8; 8] },
+    // an order, and the verdict on a claim
+    Marked { order: u8, verdict: Verdict },
     Cleared,
     Refused(Refusal),
 }
@@ -21,25 +25,11 @@ fn show_pattern<W: fmt::Write>(bytes: &[u8; 8], f: &mut fmt::Formatter<W>) -> fm
     Ok(())
 }
 
-// A refusal's number and its details.
-fn show_refusal<W: fmt::Write>(refusal: Refusal, f: &mut fmt::Formatter<W>) -> fmt::Result {
-    match refusal {
-        Refusal::RowLength => write!(f, "1"),
-        Refusal::QuestionOut => write!(f, "2"),
-        Refusal::Full => write!(f, "3"),
-        Refusal::ZeroOutOfLimits => write!(f, "4"),
-        Refusal::AddingOutOfRange(at) => {
-            let order = at.order;
-            let operation = at.operation;
-            write!(f, "5 {order} {operation}")
-        }
-        Refusal::OrderAboveRow => write!(f, "6"),
-        Refusal::OrderAboveZeros => write!(f, "7"),
-        Refusal::ClosingOutOfRange { operation } => write!(f, "8 {operation}"),
-        Refusal::NotAdmitted(cause) => {
-            let number = cause.number();
-            write!(f, "17 {number}")
-        }
+fn show_verdict<W: fmt::Write>(verdict: Verdict, f: &mut fmt::Formatter<W>) -> fmt::Result {
+    match verdict {
+        Verdict::Right => write!(f, "right"),
+        Verdict::Wrong => write!(f, "wrong"),
+        Verdict::Open => write!(f, "open"),
     }
 }
 
@@ -53,11 +43,12 @@ pub impl fmt::Display for Line as LineDisplay {
                 write!(f, " ")?;
                 show_pattern(bound, f)
             }
-            Line::Cleared => write!(f, "C"),
-            Line::Refused(refusal) => {
-                write!(f, "R ")?;
-                show_refusal(*refusal, f)
+            Line::Marked { order, verdict } => {
+                write!(f, "M {order} ")?;
+                show_verdict(*verdict, f)
             }
+            Line::Cleared => write!(f, "C"),
+            Line::Refused(refusal) => write!(f, "R {refusal}"),
         }
     }
 }
