@@ -18,8 +18,9 @@ use Rattle.coefficients.specs.Closing.{Closed, close, Verdict as Defined, verdi
 use Rattle.coefficients.specs.Calls.{Making, State, Call, Answer}
 use Rattle.row.specs.declared.cell.Cell.{Cell}
 use Rattle.row.specs.Reading.{plain-cell}
+use Rattle.closing.specs.Closings.{Gives-numbers}
 use Rattle.closing.specs.declared.verdict.Verdict.{Verdict}
-use Rattle.bench.specs.Answers.{told-refusal, Asked-numbers, Issued-for, One-more}
+use Rattle.bench.specs.Answers.{told-refusal, Issued-for, One-more}
 use Rattle.bench.specs.Asking.{order-outcome, question-out, marking-step, Judged-out}
 use Rattle.bench.specs.Benches.{making-of, Standing, Called, Keeps, Addition-leaves, Clearing-leaves}
 use Rattle.bench.specs.declared.Bench.{Bench}
@@ -34,7 +35,7 @@ pub told-err : {X : Type 0} (told : Result X Refusal → Answer) → ((e : Refus
 told-err told is (Ok i) x h = absurd h
 told-err told is (Err e) x h = is e ∙ ap told-refusal h
 
-pub asked-none : {N : Type 0} (m : Meaning) (value : N → ℤ) (r : Result (N × N) Refusal) → isErr r ≡ true → Asked-numbers m value r
+pub asked-none : {N : Type 0} (m : Meaning) (value : N → ℤ) (r : Result (N × N) Refusal) → isErr r ≡ true → Gives-numbers m value r
 asked-none m value (Ok p) h = not-false (sym h)
 asked-none m value (Err e) h = tt
 

@@ -1,36 +1,21 @@
--- The answers of the bench's calls as answers of the definitions. Each refusal has its number and its details here, once.
+-- The answers of the bench's calls as answers of the definitions.
 use mathlib.Core.Path.{_≡_}
 use mathlib.Core.Bool.{Bool, true, false}
-use mathlib.Core.List.{List, [], _∷_}
 use mathlib.Core.Option.{Option, none, some}
 use Prim.Native.Nat.{ℕ, _+_}
 use lib.IntN.{ℤ}
 use Rattle.std.specs.declared.result.Result.{Result}
 use Rattle.std.specs.declared.result.Result.the-variants.{Ok, Err}
-use Rattle.arithmetic.specs.Meaning.{Meaning, Number}
-use Rattle.arithmetic.specs.Causes.{cause-number}
 use Rattle.coefficients.specs.Calls.{Answer, added, cleared, asked, issued, marked, withdrawn, refused}
 use Rattle.closing.specs.Closings.{told-verdict}
 use Rattle.closing.specs.declared.verdict.Verdict.{Verdict}
 use Rattle.bench.specs.declared.question.Question.{Question}
 use Rattle.bench.specs.declared.question.GivenBack.{GivenBack}
+use Rattle.bench.specs.Refusals.{refusal-number, refusal-details}
 use Rattle.bench.specs.declared.refusal.Refusal.{Refusal}
-use Rattle.bench.specs.declared.refusal.Refusal.the-variants.{RowLength, QuestionOut, Full, ZeroOutOfLimits, AddingOutOfRange, OrderAboveRow, OrderAboveZeros, ClosingOutOfRange, TooManyOut, NotOut, ToleranceBelowZero, JudgingOutOfRange, NotAdmitted}
 
 abbrev pub told-refusal : Refusal → Answer
-told-refusal RowLength = refused 1 []
-told-refusal QuestionOut = refused 2 []
-told-refusal Full = refused 3 []
-told-refusal ZeroOutOfLimits = refused 4 []
-told-refusal (AddingOutOfRange at) = refused 5 (at .order ∷ at .operation ∷ [])
-told-refusal OrderAboveRow = refused 6 []
-told-refusal OrderAboveZeros = refused 7 []
-told-refusal (ClosingOutOfRange operation) = refused 8 (operation ∷ [])
-told-refusal TooManyOut = refused 9 []
-told-refusal NotOut = refused 10 []
-told-refusal ToleranceBelowZero = refused 11 []
-told-refusal (JudgingOutOfRange operation) = refused 12 (operation ∷ [])
-told-refusal (NotAdmitted cause) = refused 17 (cause-number cause ∷ [])
+told-refusal r = refused (refusal-number r) (refusal-details r)
 
 -- whether a row will do: the refusal, if there is one
 abbrev pub told-row : Result (Unit {0}) Refusal → Option Answer
@@ -48,11 +33,6 @@ told-cleared (Err r) = told-refusal r
 abbrev pub told-asked : {N : Type 0} → (N → ℤ) → Result (N × N) Refusal → Answer
 told-asked value (Ok p) = asked (value (p .0)) (value (p .1))
 told-asked value (Err r) = told-refusal r
-
--- an answered value and its bound are numbers
-abbrev pub Asked-numbers : {N : Type 0} → Meaning → (N → ℤ) → Result (N × N) Refusal → Type 0
-Asked-numbers m value (Ok p) = Number m (value (p .0)) × Number m (value (p .1))
-Asked-numbers m value (Err r) = Unit {0}
 
 abbrev pub told-issued : Result Question Refusal → Answer
 told-issued (Ok q) = issued (q .bench) (q .order)

@@ -33,6 +33,10 @@ pub record Called (b : Making) (s s′ : State) (call : Call) (answer : Answer) 
   pub then : s′ ≡ step b s call .then
   pub law : Call-law b s call answer
 
+-- the same of a bench before and after a call
+abbrev pub Answers-call : {A N P : Type 0} → Setting P → Bench A N P → Bench A N P → Call → Answer → Type 0
+Answers-call st b b′ call answer = Called (making-of st b) (state-of st b) (state-of st b′) call answer
+
 -- what every call keeps: what the bench was made with, the length of its row, and its standing condition
 pub record Keeps {A N P : Type 0} (st : Setting P) (b b′ : Bench A N P) : Type 0 where
   pub making : making-of st b′ ≡ making-of st b

@@ -1,7 +1,6 @@
 // A bench over a lent row of cells: whether a row will do, making, adding, clearing, asking. Generic over the arithmetic, which
 // is handed to each call.
 ghost use mathlib.Core.Path.{_≡_};
-ghost use mathlib.Core.Bool.{true};
 ghost use mathlib.Core.List.{map};
 ghost use Prim.Native.Nat.{suc, _+_, _-_, _<_, _≤_, min};
 ghost use lib.Dec.{eqb};
@@ -12,10 +11,11 @@ ghost use Rattle.coefficients.specs.Calls.{row-refusal, new-bench, step, mark-n
 ghost use Rattle.coefficients.specs.Book.{accepted};
 ghost use Rattle.coefficients.specs.Law.{Book-law};
 ghost use Rattle.row.specs.Reading.{plain-cell};
-ghost use Rattle.bench.specs.Answers.{told-row, told-added, told-cleared, told-asked, Asked-numbers, told-issued, told-marked, told-withdrawn, Gives-back, Issued-for, Withdrawn-if, One-more, One-less};
+ghost use Rattle.closing.specs.Closings.{Gives-numbers};
+ghost use Rattle.bench.specs.Answers.{told-row, told-added, told-cleared, told-asked, told-issued, told-marked, told-withdrawn, Gives-back, Issued-for, Withdrawn-if, One-more, One-less};
 ghost use Rattle.arithmetic.specs.Meaning.{Number as IsNumber};
 ghost use Rattle.bench.specs.Asking.{order-outcome, question-out, marking-step, Judged-out};
-ghost use Rattle.bench.specs.Benches.{making-of, state-of, Standing, Called, Keeps, Addition-leaves, Clearing-leaves};
+ghost use Rattle.bench.specs.Benches.{making-of, state-of, Standing, Answers-call, Keeps, Addition-leaves, Clearing-leaves};
 use arithmetic::Arithmetic;
 use closing::close;
 use closing::judge;
@@ -93,9 +93,10 @@ impl<'r, A: Arithmetic> Bench<'r, A> {
     pub fn add(&mut self, arith: &mut A, bytes: &[u8; 8]) -> Result<u8, Refusal>
         requires law { ⌜ A·Arithmetic .lawful (now arith) ⌝ }
         requires standing { ⌜ Standing (now self) ⌝ }
-        ensures called { λ r. ⌜ Called (making-of (A·Arithmetic .setting (now (arith .entry))) (now (self .entry))) (state-of (A·Arithmetic .setting (now (arith .entry))) (now (self .entry))) (state-of (A·Arithmetic .setting (now (arith .entry))) (now (self .exit))) (add-call (now (bytes .entry))) (told-added r) ⌝ }
+        ensures called { λ r. ⌜ Answers-call (A·Arithmetic .setting (now (arith .entry))) (now (self .entry)) (now (self .exit)) (add-call (now (bytes .entry))) (told-added r) ⌝ }
         ensures cells { λ r. ⌜ Addition-leaves (min (suc (now (self .entry) .held)) (length (now (now (self .entry) .row)) - 1)) (accepted (told-added r)) (now (now (self .entry) .row)) (now (now (self .exit) .row)) ⌝ }
         ensures keeps { λ _. ⌜ Keeps (A·Arithmetic .setting (now (arith .entry))) (now (self .entry)) (now (self .exit)) ⌝ }
+        ensures counts { λ _. ⌜ now (self .exit) .out ≡ now (self .entry) .out ⌝ }
         ensures lender { λ _. ⌜ name (now (self .exit) .row) ≡ name (now (self .entry) .row) ⌝ }
         ensures same { λ _. ⌜ A·Arithmetic .setting (now (arith .exit)) ≡ A·Arithmetic .setting (now (arith .entry)) ⌝ }
         ensures law { λ _. ⌜ A·Arithmetic .lawful (now (arith .exit)) ⌝ }
@@ -109,9 +110,10 @@ impl<'r, A: Arithmetic> Bench<'r, A> {
         requires law { ⌜ A·Arithmetic .lawful (now arith) ⌝ }
         requires standing { ⌜ Standing (now self) ⌝ }
         requires next { ⌜ number ≡ suc (now self .held) ⌝ }
-        ensures called { λ r. ⌜ Called (making-of (A·Arithmetic .setting (now (arith .entry))) (now (self .entry))) (state-of (A·Arithmetic .setting (now (arith .entry))) (now (self .entry))) (state-of (A·Arithmetic .setting (now (arith .entry))) (now (self .exit))) (add-call (now (bytes .entry))) (told-added r) ⌝ }
+        ensures called { λ r. ⌜ Answers-call (A·Arithmetic .setting (now (arith .entry))) (now (self .entry)) (now (self .exit)) (add-call (now (bytes .entry))) (told-added r) ⌝ }
         ensures cells { λ r. ⌜ Addition-leaves (min (suc (now (self .entry) .held)) (length (now (now (self .entry) .row)) - 1)) (accepted (told-added r)) (now (now (self .entry) .row)) (now (now (self .exit) .row)) ⌝ }
         ensures keeps { λ _. ⌜ Keeps (A·Arithmetic .setting (now (arith .entry))) (now (self .entry)) (now (self .exit)) ⌝ }
+        ensures counts { λ _. ⌜ now (self .exit) .out ≡ now (self .entry) .out ⌝ }
         ensures lender { λ _. ⌜ name (now (self .exit) .row) ≡ name (now (self .entry) .row) ⌝ }
         ensures same { λ _. ⌜ A·Arithmetic .setting (now (arith .exit)) ≡ A·Arithmetic .setting (now (arith .entry)) ⌝ }
         ensures law { λ _. ⌜ A·Arithmetic .lawful (now (arith .exit)) ⌝ }
@@ -136,9 +138,10 @@ impl<'r, A: Arithmetic> Bench<'r, A> {
     pub fn clear(&mut self, arith: &A) -> Result<(), Refusal>
         requires law { ⌜ A·Arithmetic .lawful (now arith) ⌝ }
         requires standing { ⌜ Standing (now self) ⌝ }
-        ensures called { λ r. ⌜ Called (making-of (A·Arithmetic .setting (now (arith .entry))) (now (self .entry))) (state-of (A·Arithmetic .setting (now (arith .entry))) (now (self .entry))) (state-of (A·Arithmetic .setting (now (arith .entry))) (now (self .exit))) clear-call (told-cleared r) ⌝ }
+        ensures called { λ r. ⌜ Answers-call (A·Arithmetic .setting (now (arith .entry))) (now (self .entry)) (now (self .exit)) clear-call (told-cleared r) ⌝ }
         ensures cells { λ r. ⌜ Clearing-leaves (A·Arithmetic .setting (now (arith .entry))) (accepted (told-cleared r)) (now (now (self .entry) .row)) (now (now (self .exit) .row)) ⌝ }
         ensures keeps { λ _. ⌜ Keeps (A·Arithmetic .setting (now (arith .entry))) (now (self .entry)) (now (self .exit)) ⌝ }
+        ensures counts { λ _. ⌜ now (self .exit) .out ≡ now (self .entry) .out ⌝ }
         ensures lender { λ _. ⌜ name (now (self .exit) .row) ≡ name (now (self .entry) .row) ⌝ }
     {
         let free = self.out == 0;
@@ -150,9 +153,10 @@ impl<'r, A: Arithmetic> Bench<'r, A> {
         requires law { ⌜ A·Arithmetic .lawful (now arith) ⌝ }
         requires standing { ⌜ Standing (now self) ⌝ }
         requires free { ⌜ free ≡ eqb (now self .out) 0 ⌝ }
-        ensures called { λ r. ⌜ Called (making-of (A·Arithmetic .setting (now (arith .entry))) (now (self .entry))) (state-of (A·Arithmetic .setting (now (arith .entry))) (now (self .entry))) (state-of (A·Arithmetic .setting (now (arith .entry))) (now (self .exit))) clear-call (told-cleared r) ⌝ }
+        ensures called { λ r. ⌜ Answers-call (A·Arithmetic .setting (now (arith .entry))) (now (self .entry)) (now (self .exit)) clear-call (told-cleared r) ⌝ }
         ensures cells { λ r. ⌜ Clearing-leaves (A·Arithmetic .setting (now (arith .entry))) (accepted (told-cleared r)) (now (now (self .entry) .row)) (now (now (self .exit) .row)) ⌝ }
         ensures keeps { λ _. ⌜ Keeps (A·Arithmetic .setting (now (arith .entry))) (now (self .entry)) (now (self .exit)) ⌝ }
+        ensures counts { λ _. ⌜ now (self .exit) .out ≡ now (self .entry) .out ⌝ }
         ensures lender { λ _. ⌜ name (now (self .exit) .row) ≡ name (now (self .entry) .row) ⌝ }
     {
         if !free {
@@ -188,8 +192,8 @@ impl<'r, A: Arithmetic> Bench<'r, A> {
     pub fn ask(&self, arith: &mut A, k: u8) -> Result<(A::Number, A::Number), Refusal>
         requires law { ⌜ A·Arithmetic .lawful (now arith) ⌝ }
         requires standing { ⌜ Standing (now self) ⌝ }
-        ensures called { λ r. ⌜ Called (making-of (A·Arithmetic .setting (now (arith .entry))) (now (self .entry))) (state-of (A·Arithmetic .setting (now (arith .entry))) (now (self .entry))) (state-of (A·Arithmetic .setting (now (arith .entry))) (now (self .entry))) (ask-call k) (told-asked (A·Arithmetic .value) r) ⌝ }
-        ensures numbers { λ r. ⌜ Asked-numbers (A·Arithmetic .setting (now (arith .entry)) .meaning) (A·Arithmetic .value) r ⌝ }
+        ensures called { λ r. ⌜ Answers-call (A·Arithmetic .setting (now (arith .entry))) (now (self .entry)) (now (self .entry)) (ask-call k) (told-asked (A·Arithmetic .value) r) ⌝ }
+        ensures numbers { λ r. ⌜ Gives-numbers (A·Arithmetic .setting (now (arith .entry)) .meaning) (A·Arithmetic .value) r ⌝ }
         ensures same { λ _. ⌜ A·Arithmetic .setting (now (arith .exit)) ≡ A·Arithmetic .setting (now (arith .entry)) ⌝ }
         ensures law { λ _. ⌜ A·Arithmetic .lawful (now (arith .exit)) ⌝ }
     {
@@ -201,8 +205,8 @@ impl<'r, A: Arithmetic> Bench<'r, A> {
         requires law { ⌜ A·Arithmetic .lawful (now arith) ⌝ }
         requires standing { ⌜ Standing (now self) ⌝ }
         requires held { ⌜ n ≡ now self .held ⌝ }
-        ensures called { λ r. ⌜ Called (making-of (A·Arithmetic .setting (now (arith .entry))) (now (self .entry))) (state-of (A·Arithmetic .setting (now (arith .entry))) (now (self .entry))) (state-of (A·Arithmetic .setting (now (arith .entry))) (now (self .entry))) (ask-call k) (told-asked (A·Arithmetic .value) r) ⌝ }
-        ensures numbers { λ r. ⌜ Asked-numbers (A·Arithmetic .setting (now (arith .entry)) .meaning) (A·Arithmetic .value) r ⌝ }
+        ensures called { λ r. ⌜ Answers-call (A·Arithmetic .setting (now (arith .entry))) (now (self .entry)) (now (self .entry)) (ask-call k) (told-asked (A·Arithmetic .value) r) ⌝ }
+        ensures numbers { λ r. ⌜ Gives-numbers (A·Arithmetic .setting (now (arith .entry)) .meaning) (A·Arithmetic .value) r ⌝ }
         ensures same { λ _. ⌜ A·Arithmetic .setting (now (arith .exit)) ≡ A·Arithmetic .setting (now (arith .entry)) ⌝ }
         ensures law { λ _. ⌜ A·Arithmetic .lawful (now (arith .exit)) ⌝ }
     {
@@ -218,7 +222,7 @@ impl<'r, A: Arithmetic> Bench<'r, A> {
     pub fn issue(&mut self, arith: &A, k: u8) -> Result<Question, Refusal>
         requires law { ⌜ A·Arithmetic .lawful (now arith) ⌝ }
         requires standing { ⌜ Standing (now self) ⌝ }
-        ensures called { λ r. ⌜ Called (making-of (A·Arithmetic .setting (now (arith .entry))) (now (self .entry))) (state-of (A·Arithmetic .setting (now (arith .entry))) (now (self .entry))) (state-of (A·Arithmetic .setting (now (arith .entry))) (now (self .exit))) (issue-call k) (told-issued r) ⌝ }
+        ensures called { λ r. ⌜ Answers-call (A·Arithmetic .setting (now (arith .entry))) (now (self .entry)) (now (self .exit)) (issue-call k) (told-issued r) ⌝ }
         ensures cells { λ _. ⌜ now (now (self .exit) .row) ≡ now (now (self .entry) .row) ⌝ }
         ensures keeps { λ _. ⌜ Keeps (A·Arithmetic .setting (now (arith .entry))) (now (self .entry)) (now (self .exit)) ⌝ }
         ensures lender { λ _. ⌜ name (now (self .exit) .row) ≡ name (now (self .entry) .row) ⌝ }
@@ -234,7 +238,7 @@ impl<'r, A: Arithmetic> Bench<'r, A> {
         requires law { ⌜ A·Arithmetic .lawful (now arith) ⌝ }
         requires standing { ⌜ Standing (now self) ⌝ }
         requires held { ⌜ n ≡ now self .held ⌝ }
-        ensures called { λ r. ⌜ Called (making-of (A·Arithmetic .setting (now (arith .entry))) (now (self .entry))) (state-of (A·Arithmetic .setting (now (arith .entry))) (now (self .entry))) (state-of (A·Arithmetic .setting (now (arith .entry))) (now (self .exit))) (issue-call k) (told-issued r) ⌝ }
+        ensures called { λ r. ⌜ Answers-call (A·Arithmetic .setting (now (arith .entry))) (now (self .entry)) (now (self .exit)) (issue-call k) (told-issued r) ⌝ }
         ensures cells { λ _. ⌜ now (now (self .exit) .row) ≡ now (now (self .entry) .row) ⌝ }
         ensures keeps { λ _. ⌜ Keeps (A·Arithmetic .setting (now (arith .entry))) (now (self .entry)) (now (self .exit)) ⌝ }
         ensures lender { λ _. ⌜ name (now (self .exit) .row) ≡ name (now (self .entry) .row) ⌝ }
@@ -254,7 +258,7 @@ impl<'r, A: Arithmetic> Bench<'r, A> {
     pub fn mark(&mut self, arith: &mut A, question: Question, claim: &[u8; 8], tolerance: &[u8; 8]) -> Result<Verdict, GivenBack>
         requires law { ⌜ A·Arithmetic .lawful (now arith) ⌝ }
         requires standing { ⌜ Standing (now self) ⌝ }
-        ensures called { λ r. ⌜ Called (making-of (A·Arithmetic .setting (now (arith .entry))) (now (self .entry))) (state-of (A·Arithmetic .setting (now (arith .entry))) (now (self .entry))) (state-of (A·Arithmetic .setting (now (arith .entry))) (now (self .exit))) (mark-call (question .bench) (question .order) (now (claim .entry)) (now (tolerance .entry))) (told-marked r) ⌝ }
+        ensures called { λ r. ⌜ Answers-call (A·Arithmetic .setting (now (arith .entry))) (now (self .entry)) (now (self .exit)) (mark-call (question .bench) (question .order) (now (claim .entry)) (now (tolerance .entry))) (told-marked r) ⌝ }
         ensures back { λ r. ⌜ Gives-back question r ⌝ }
         ensures cells { λ _. ⌜ now (now (self .exit) .row) ≡ now (now (self .entry) .row) ⌝ }
         ensures keeps { λ _. ⌜ Keeps (A·Arithmetic .setting (now (arith .entry))) (now (self .entry)) (now (self .exit)) ⌝ }
@@ -270,7 +274,7 @@ impl<'r, A: Arithmetic> Bench<'r, A> {
     fn mark_admitted(&mut self, arith: &mut A, question: Question, claim: &[u8; 8], tolerance: &[u8; 8]) -> Result<Verdict, GivenBack>
         requires law { ⌜ A·Arithmetic .lawful (now arith) ⌝ }
         requires standing { ⌜ Standing (now self) ⌝ }
-        ensures called { λ r. ⌜ Called (making-of (A·Arithmetic .setting (now (arith .entry))) (now (self .entry))) (state-of (A·Arithmetic .setting (now (arith .entry))) (now (self .entry))) (state-of (A·Arithmetic .setting (now (arith .entry))) (now (self .exit))) (mark-call (question .bench) (question .order) (now (claim .entry)) (now (tolerance .entry))) (told-marked r) ⌝ }
+        ensures called { λ r. ⌜ Answers-call (A·Arithmetic .setting (now (arith .entry))) (now (self .entry)) (now (self .exit)) (mark-call (question .bench) (question .order) (now (claim .entry)) (now (tolerance .entry))) (told-marked r) ⌝ }
         ensures back { λ r. ⌜ Gives-back question r ⌝ }
         ensures cells { λ _. ⌜ now (now (self .exit) .row) ≡ now (now (self .entry) .row) ⌝ }
         ensures keeps { λ _. ⌜ Keeps (A·Arithmetic .setting (now (arith .entry))) (now (self .entry)) (now (self .exit)) ⌝ }
@@ -338,7 +342,7 @@ impl<'r, A: Arithmetic> Bench<'r, A> {
     pub fn withdraw(&mut self, arith: &A, question: Question) -> Result<(), GivenBack>
         requires law { ⌜ A·Arithmetic .lawful (now arith) ⌝ }
         requires standing { ⌜ Standing (now self) ⌝ }
-        ensures called { λ r. ⌜ Called (making-of (A·Arithmetic .setting (now (arith .entry))) (now (self .entry))) (state-of (A·Arithmetic .setting (now (arith .entry))) (now (self .entry))) (state-of (A·Arithmetic .setting (now (arith .entry))) (now (self .exit))) (withdraw-call (question .bench) (question .order)) (told-withdrawn r) ⌝ }
+        ensures called { λ r. ⌜ Answers-call (A·Arithmetic .setting (now (arith .entry))) (now (self .entry)) (now (self .exit)) (withdraw-call (question .bench) (question .order)) (told-withdrawn r) ⌝ }
         ensures back { λ r. ⌜ Gives-back question r ⌝ }
         ensures cells { λ _. ⌜ now (now (self .exit) .row) ≡ now (now (self .entry) .row) ⌝ }
         ensures keeps { λ _. ⌜ Keeps (A·Arithmetic .setting (now (arith .entry))) (now (self .entry)) (now (self .exit)) ⌝ }
@@ -355,7 +359,7 @@ impl<'r, A: Arithmetic> Bench<'r, A> {
         requires law { ⌜ A·Arithmetic .lawful (now arith) ⌝ }
         requires standing { ⌜ Standing (now self) ⌝ }
         requires out { ⌜ out ≡ question-out (question .bench) (now self .number) (now self .out) ⌝ }
-        ensures called { λ r. ⌜ Called (making-of (A·Arithmetic .setting (now (arith .entry))) (now (self .entry))) (state-of (A·Arithmetic .setting (now (arith .entry))) (now (self .entry))) (state-of (A·Arithmetic .setting (now (arith .entry))) (now (self .exit))) (withdraw-call (question .bench) (question .order)) (told-withdrawn r) ⌝ }
+        ensures called { λ r. ⌜ Answers-call (A·Arithmetic .setting (now (arith .entry))) (now (self .entry)) (now (self .exit)) (withdraw-call (question .bench) (question .order)) (told-withdrawn r) ⌝ }
         ensures back { λ r. ⌜ Gives-back question r ⌝ }
         ensures cells { λ _. ⌜ now (now (self .exit) .row) ≡ now (now (self .entry) .row) ⌝ }
         ensures keeps { λ _. ⌜ Keeps (A·Arithmetic .setting (now (arith .entry))) (now (self .entry)) (now (self .exit)) ⌝ }

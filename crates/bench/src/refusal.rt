@@ -1,5 +1,6 @@
 // Why a call is refused: the first of its questions that is answered no.
 ghost use mathlib.Core.Path.{_≡_};
+ghost use Rattle.bench.specs.Refusals.{refusal-number, refusal-details, told-details};
 ghost use Rattle.bench.specs.declared.refusal.Refusal.the-variants.{AddingOutOfRange, NotAdmitted};
 use arithmetic::cause::Cause;
 use row::cell::OutOfRange;
@@ -51,30 +52,61 @@ pub impl From<OutOfRange> for Refusal as RefusalOfRange {
     }
 }
 
-// A refusal's number, then its details.
+// The details of a refusal, in the order in which they are told.
+#[derive(Clone, Copy)]
+pub enum Details {
+    Nothing,
+    Operation(u8),
+    OrderAndOperation(usize, u8),
+    CauseNumber(u8),
+}
+
+impl Refusal {
+    // The number of a refusal.
+    pub fn number(self) -> u8
+        ensures { λ r. ⌜ r ≡ refusal-number self ⌝ }
+    {
+        match self {
+            Refusal::RowLength => 1,
+            Refusal::QuestionOut => 2,
+            Refusal::Full => 3,
+            Refusal::ZeroOutOfLimits => 4,
+            Refusal::AddingOutOfRange(_) => 5,
+            Refusal::OrderAboveRow => 6,
+            Refusal::OrderAboveZeros => 7,
+            Refusal::ClosingOutOfRange { operation: _ } => 8,
+            Refusal::TooManyOut => 9,
+            Refusal::NotOut => 10,
+            Refusal::ToleranceBelowZero => 11,
+            Refusal::JudgingOutOfRange { operation: _ } => 12,
+            Refusal::NotAdmitted(_) => 17,
+        }
+    }
+
+    // Its details.
+    pub fn details(self) -> Details
+        ensures { λ r. ⌜ told-details r ≡ refusal-details self ⌝ }
+    {
+        match self {
+            Refusal::AddingOutOfRange(at) => Details::OrderAndOperation(at.order, at.operation),
+            Refusal::ClosingOutOfRange { operation } => Details::Operation(operation),
+            Refusal::JudgingOutOfRange { operation } => Details::Operation(operation),
+            Refusal::NotAdmitted(cause) => Details::CauseNumber(cause.number()),
+            _ => Details::Nothing,
+        }
+    }
+}
+
+// A refusal's number, then its details, with one space between two of them.
 pub impl fmt::Display for Refusal as RefusalDisplay {
     fn fmt<W: fmt::Write>(&self, f: &mut fmt::Formatter<W>) -> fmt::Result {
-        match *self {
-            Refusal::RowLength => write!(f, "1"),
-            Refusal::QuestionOut => write!(f, "2"),
-            Refusal::Full => write!(f, "3"),
-            Refusal::ZeroOutOfLimits => write!(f, "4"),
-            Refusal::AddingOutOfRange(at) => {
-                let order = at.order;
-                let operation = at.operation;
-                write!(f, "5 {order} {operation}")
-            }
-            Refusal::OrderAboveRow => write!(f, "6"),
-            Refusal::OrderAboveZeros => write!(f, "7"),
-            Refusal::ClosingOutOfRange { operation } => write!(f, "8 {operation}"),
-            Refusal::TooManyOut => write!(f, "9"),
-            Refusal::NotOut => write!(f, "10"),
-            Refusal::ToleranceBelowZero => write!(f, "11"),
-            Refusal::JudgingOutOfRange { operation } => write!(f, "12 {operation}"),
-            Refusal::NotAdmitted(cause) => {
-                let number = cause.number();
-                write!(f, "17 {number}")
-            }
+        let number = self.number();
+        write!(f, "{number}")?;
+        match self.details() {
+            Details::Nothing => Ok(()),
+            Details::Operation(operation) => write!(f, " {operation}"),
+            Details::OrderAndOperation(order, operation) => write!(f, " {order} {operation}"),
+            Details::CauseNumber(cause) => write!(f, " {cause}"),
         }
     }
 }

@@ -15,9 +15,9 @@ closing value (Ok p) = done (record { value = value (p .0); bound = value (p .1)
 closing value (Err o) = stopped o
 
 -- the value and the bound are numbers
-abbrev pub Gives-numbers : {N : Type 0} → Meaning → (N → ℤ) → Result (N × N) ℕ → Type 0
+abbrev pub Gives-numbers : {N E : Type 0} → Meaning → (N → ℤ) → Result (N × N) E → Type 0
 Gives-numbers m value (Ok p) = Number m (value (p .0)) × Number m (value (p .1))
-Gives-numbers m value (Err o) = Unit {0}
+Gives-numbers m value (Err e) = Unit {0}
 
 abbrev pub told-verdict : Verdict → Defined
 told-verdict Right = right
