@@ -6,6 +6,3 @@ use Rattle.arithmetic.proofs.RadixRules.{Lawful}
 
 pub lawful-binary64 : Lawful 2 53 1074 (2 ^ 174) (2 ^ 1974)
 lawful-binary64 = record { half = 1; even = refl; base = lit≤ tt; digits = lit≤ tt; fine = lit≤ tt; grains = lit≤ tt; room = lit≤ tt; low-above = lit≤ tt; low-one = lit≤ tt; high-one = lit≤ tt }
-
-pub lawful-decimal8 : Lawful 10 8 70 (10 ^ 30) (10 ^ 110)
-lawful-decimal8 = record { half = 5; even = refl; base = lit≤ tt; digits = lit≤ tt; fine = lit≤ tt; grains = lit≤ tt; room = lit≤ tt; low-above = lit≤ tt; low-one = lit≤ tt; high-one = lit≤ tt }

@@ -1,6 +1,6 @@
 -- Comparisons of floats are comparisons of the numbers that they stand for. The model compares two fractions over a common
--- denominator; a unit is a common denominator too, and the order does not depend on which is taken. A test that a float's
--- size lies between two floats is then a test of its magnitude.
+-- denominator; a unit is a common denominator too, and the order does not depend on which is taken. The size of a float is
+-- a float too, which stands for the magnitude.
 use mathlib.Core.Path.{_≡_, refl, sym, ap, _∙_, subst}
 use mathlib.Core.Bool.{Bool, true, false, not, _||_}
 use Prim.Native.Nat.{ℕ, zero, suc, _+_, _*_, _^_, _≤_, _<_}
@@ -101,18 +101,6 @@ finite-le (fin s m e) (fin t n d) hx hy = turned s (m * up e * down d) t (n * up
 pub le-value : (f : Format) (x y : Float) → Held f x → Held f y → le x y ≡ not (ltZ (value f y) (value f x))
 le-value f x y hx hy = finite-le x y (hx .1) (hy .1) ∙ ap not (lt-value f y x hy hx)
 
--- between two finite numbers stands a finite one
-pub between-finite : (lo x hi : Float) → T (finite lo) → T (finite hi) → T (le lo x) → T (le x hi) → T (finite x)
-unfolding le lt eq
-between-finite nan x hi p q a b = absurd p
-between-finite (inf s) x hi p q a b = absurd p
-between-finite (fin s m e) nan hi p q a b = absurd a
-between-finite (fin s m e) (fin t n d) hi p q a b = tt
-between-finite (fin s m e) (inf t) nan p q a b = absurd q
-between-finite (fin s m e) (inf t) (inf u) p q a b = absurd q
-between-finite (fin s m e) (inf true) (fin u k c) p q a b = absurd a
-between-finite (fin s m e) (inf false) (fin u k c) p q a b = absurd b
-
 -- the size of x as a float
 pub abs-held : (f : Format) (x : Float) → Held f x → Held f (withSign false x)
 unfolding withSign fits
@@ -126,44 +114,3 @@ unfolding withSign value magnitude
 abs-value f nan = refl
 abs-value f (inf s) = refl
 abs-value f (fin s m e) = refl
-
--- ---- a test of range, by the size as a float
-finite-abs : (x : Float) → T (finite (withSign false x)) → T (finite x)
-unfolding withSign
-finite-abs nan t = t
-finite-abs (inf s) t = t
-finite-abs (fin s m e) t = t
-
-abs-finite : (x : Float) → T (finite x) → T (finite (withSign false x))
-unfolding withSign
-abs-finite nan t = t
-abs-finite (inf s) t = t
-abs-finite (fin s m e) t = t
-
-at-most : (u v : ℕ) → not (ltZ (pos v) (pos u)) ≡ true → u ≤ v
-at-most u v e = nltb→le v u (subst T (sym e) tt)
-
-at-least : (u v : ℕ) → u ≤ v → not (ltZ (pos v) (pos u)) ≡ true
-at-least u v h = grind (arith, tells)
-
-module _ (f : Format) (lo hi : Float) (a b : ℕ) (hl : Held f lo) (hh : Held f hi) (el : value f lo ≡ pos a) (eh : value f hi ≡ pos b) where
-  pub range-yes : (x : Float) → T (fits f x) → le lo (withSign false x) ≡ true → le (withSign false x) hi ≡ true → T (finite x) × (a ≤ magnitude f x) × (magnitude f x ≤ b)
-  range-yes x fx p q =
-      let m = withSign false x in
-      let t = between-finite lo m hi (hl .1) (hh .1) (subst T (sym p) tt) (subst T (sym q) tt) in
-      let hx : Held f x = (fx, finite-abs x t) in
-      let hm = abs-held f x hx in
-      (
-        hx .1,
-        at-most a (magnitude f x) (sym (le-value f lo m hl hm ∙ ap (λ (z : ℤ). not (ltZ z (value f lo))) (abs-value f x) ∙ ap (λ (z : ℤ). not (ltZ (pos (magnitude f x)) z)) el) ∙ p),
-        at-most (magnitude f x) b (sym (le-value f m hi hm hh ∙ ap (λ (z : ℤ). not (ltZ (value f hi) z)) (abs-value f x) ∙ ap (λ (z : ℤ). not (ltZ z (pos (magnitude f x)))) eh) ∙ q),
-      )
-
-  pub range-no : (x : Float) → T (fits f x) → T (finite x) → a ≤ magnitude f x → magnitude f x ≤ b → (le lo (withSign false x) ≡ true) × (le (withSign false x) hi ≡ true)
-  range-no x fx t p q =
-      let m = withSign false x in
-      let hm = abs-held f x (fx, t) in
-      (
-        le-value f lo m hl hm ∙ ap (λ (z : ℤ). not (ltZ z (value f lo))) (abs-value f x) ∙ ap (λ (z : ℤ). not (ltZ (pos (magnitude f x)) z)) el ∙ at-least a (magnitude f x) p,
-        le-value f m hi hm hh ∙ ap (λ (z : ℤ). not (ltZ (value f hi) z)) (abs-value f x) ∙ ap (λ (z : ℤ). not (ltZ z (pos (magnitude f x)))) eh ∙ at-least (magnitude f x) b q,
-      )

@@ -1,6 +1,5 @@
 -- Each float operation gives the rounding of the exact result, or an infinity where that rounding is too large for the
--- format: sums, differences and products, whose exact results are fractions with a power of two below, and quotients. Then
--- the relative error of a rounding: half a unit of the last digit against a significand of at least 2^(p−1).
+-- format: sums and products, whose exact results are fractions with a power of two below, and quotients.
 use mathlib.Core.Path.{_≡_, refl, sym, ap, _∙_, subst}
 use mathlib.Core.Logic.{_⊎_, inl, inr}
 use mathlib.Core.Bool.{Bool, true, false, not, cond}
@@ -79,9 +78,6 @@ whole-units f = record { holds = λ s a c N C e. round-rounds f s a c N 1 C (lit
 pub add-rounds : (f : Format) (x y : Float) → Held f x → Held f y → Rounds f (rounding (prec f) (value f x +ℤ value f y) 1) (add f x y)
 add-rounds f x y hx hy = of-add f (λ v r. Rounds f (rounding (prec f) v 1) r) (whole-units f) x y hx hy
 
-pub sub-rounds : (f : Format) (x y : Float) → Held f x → Held f y → Rounds f (rounding (prec f) (value f x -ℤ value f y) 1) (sub f x y)
-sub-rounds f x y hx hy = of-sub f (λ v r. Rounds f (rounding (prec f) v 1) r) (whole-units f) x y hx hy
-
 pub mul-rounds : (f : Format) (x y : Float) → Held f x → Held f y → Rounds f (rounding (prec f) (value f x *ℤ value f y) (2 ^ low f)) (mul f x y)
 unfolding mul value
 mul-rounds f nan y hx hy = absurd (hx .1)
@@ -145,45 +141,3 @@ div-rounds f (fin s m g) (fin false n d) hx hy B P e =
         → Rounds f (rounding (prec f) (signed s (magnitude f (fin s m g)) *ℤ pos (2 ^ low f)) B) (cond b (cond (eqb m 0) nan (inf (unlike s false))) (round f (unlike s false) (m * up g * down d) (n * up d * down g)))
     go true z r = absurd (no-zero (z tt))
     go false z r = r
-
--- ---- the error of a rounding: at most 1 part in 2 ^ p, of the exact fraction and of the rounded one
--- from 2 ^ (p - 1) units on; below that a whole number of units is exact (`round-nearest` and `exact`)
-pub error : (q n d : ℕ) → 0 < d → 2 ^ q ≤ n / d
-    → let r = rounded (suc q) n d in
-      (2 ^ suc q * (n - r * d) ≤ n) × (2 ^ suc q * (r * d - n) ≤ n) × (2 ^ suc q * (n - r * d) ≤ r * d) × (2 ^ suc q * (r * d - n) ≤ r * d)
-unfolding rounded
-error q n d E h =
-    let k = drop (suc q) n d in
-    let K = d * 2 ^ k in
-    let m = closest n K in
-    let e : m * 2 ^ k * d ≡ m * K = mul-assoc m (2 ^ k) d ∙ ap (λ (z : ℕ). m * z) (mul-comm (2 ^ k) d) in
-    rw e (bounds (2 ^ q) (n / K) (n % K) K n m (sym (div-add-mod' n K)) (mod-lt n (mul-pos E (pow-pos k))) (full q n d E h) (pow-succ' 2 q) (chosen (n / K) (n % K) K))
-  where
-    full : (q n d : ℕ) → 0 < d → 2 ^ q ≤ n / d → 2 ^ q ≤ n / (d * 2 ^ (size (n / d) - suc q))
-    full q n d E h = subst (λ (z : ℕ). 2 ^ q ≤ z) (div-div-eq-div-mul n d (2 ^ (size (n / d) - suc q))) (go (size (n / d) - suc q) refl)
-      where
-        go : (k : ℕ) → size (n / d) - suc q ≡ k → 2 ^ q ≤ n / d / 2 ^ k
-        go zero e = subst (λ (z : ℕ). 2 ^ q ≤ z) (sym (div-one (n / d))) h
-        go (suc k) e = le-div-iff-mul-le (pow-pos (suc k)) .1 (subst (λ (z : ℕ). z ≤ n / d) (pow-add 2 q (suc k)) (size-reaches (n / d) (q + suc k) (omega arith)))
-    times-le : (P Q t x y : ℕ) → x ≡ t → P ≡ 2 * Q → Q * (t * 2) ≤ y → P * x ≤ y
-    times-le P Q t x y e f h =
-        let a : P * x ≡ 2 * Q * t = ap (λ (z : ℕ). P * z) e ∙ ap (λ (z : ℕ). z * t) f in
-        omega arith
-    none : (P x y : ℕ) → x ≡ 0 → P * x ≤ y
-    none P x y e = let a : P * x ≡ P * 0 = ap (λ (z : ℕ). P * z) e in omega arith
-    -- n = w * K + t, with w at least Q, and m the nearer of w and w + 1
-    bounds : {P : ℕ} (Q w t K n m : ℕ) → n ≡ w * K + t → t < K → Q ≤ w → P ≡ 2 * Q → ((m ≡ w) × (t * 2 ≤ K)) ⊎ ((m ≡ suc w) × (K ≤ t * 2))
-        → (P * (n - m * K) ≤ n) × (P * (m * K - n) ≤ n) × (P * (n - m * K) ≤ m * K) × (P * (m * K - n) ≤ m * K)
-    bounds {P} Q w t K n m a b c d (inl (z, h)) =
-        let g : m * K ≡ w * K = ap (λ (y : ℕ). y * K) z in
-        let i : n - m * K ≡ t = omega arith in
-        let j : m * K - n ≡ 0 = omega arith in
-        let l : Q * (t * 2) ≤ w * K = mul-le-mul c h in
-        (times-le P Q t (n - m * K) n i d (omega arith), none P (m * K - n) n j, times-le P Q t (n - m * K) (m * K) i d (omega arith), none P (m * K - n) (m * K) j)
-    bounds {P} Q w t K n m a b c d (inr (z, h)) =
-        let g : m * K ≡ suc w * K = ap (λ (y : ℕ). y * K) z in
-        let i : n - m * K ≡ 0 = omega arith in
-        let j : m * K - n ≡ K - t = omega arith in
-        let s : (K - t) * 2 ≤ K = omega arith in
-        let l : Q * ((K - t) * 2) ≤ w * K = mul-le-mul c s in
-        (none P (n - m * K) n i, times-le P Q (K - t) (m * K - n) n j d (omega arith), none P (n - m * K) (m * K) i, times-le P Q (K - t) (m * K - n) (m * K) j d (omega arith))

@@ -147,9 +147,3 @@ less-exact f m M h =
       where
         back : (U m : ℕ) → m < U → U ≡ m + (U - m)
         back U m h = omega arith
-
-pub lift-at : (f : Format) (m : ℕ) (a : Float) → 0 < m → m < 2 ^ prec f → Held f a
-    → Rounds f (rounding (prec f) (value f a *ℤ pos (2 ^ prec f)) (2 ^ prec f - m)) (div f a (sub f (fin false 1 (pos 0)) (mul f (ofInt f (pos m)) (ulp f))))
-lift-at f m a M h ha =
-    let d = less-exact f m M h in
-    lift-rounds f (2 ^ prec f) m (rest f) a (sub f (fin false 1 (pos 0)) (mul f (ofInt f (pos m)) (ulp f))) h (one-is f) ha (d .0) (d .1)
