@@ -122,17 +122,14 @@ pub neg-fine : (x : Float) → Fine binary64 reach x → Fine binary64 reach (ne
 neg-fine x (f, n, s) = (neg-fits binary64 x f, neg-finite x n, le-trans (le-of-eq (sym (abs-value binary64 (neg x)) ∙ ap natAbs (value-neg binary64 x) ∙ abs-neg (value binary64 x) ∙ abs-value binary64 x)) s)
 
 -- ---- the order
+turn : (a b : ℕ) → not (ltb b a) ≡ leb a b
+turn a b = grind (arith, tells)
+
 order : (a b : ℤ) → not (ltZ b a) ≡ leZ a b
 order (pos a) (pos b) = turn a b
-  where
-    turn : (a b : ℕ) → not (ltb b a) ≡ leb a b
-    turn a b = grind (arith, tells)
 order (pos a) (negsuc b) = refl
 order (negsuc a) (pos b) = refl
 order (negsuc a) (negsuc b) = turn b a
-  where
-    turn : (a b : ℕ) → not (ltb b a) ≡ leb a b
-    turn a b = grind (arith, tells)
 
 pub le-is : (x y : Float) → Fine binary64 reach x → Fine binary64 reach y → le x y ≡ leZ (value binary64 x) (value binary64 y)
 le-is x y (fx, nx, sx) (fy, ny, sy) = le-value binary64 x y (held binary64 x fx nx) (held binary64 y fy ny) ∙ order (value binary64 x) (value binary64 y)

@@ -31,27 +31,21 @@ abs-mul (pos a) (negsuc b) = abs-neg (pos (a * suc b))
 abs-mul (negsuc a) (pos b) = abs-neg (pos (suc a * b))
 abs-mul (negsuc a) (negsuc b) = refl
 
+-- a natural number is no negative
+pub no-sign : (a b : ℕ) → 0 < b → pos a ≡ negℤ (pos b) → ⊥
+no-sign a b h e = omega (arith, ints)
+
 -- a common factor
 pub factor-cancels : (x y : ℤ) (c : ℕ) → 0 < c → x *ℤ pos c ≡ y *ℤ pos c → x ≡ y
 factor-cancels (pos a) (pos b) c h e = ap pos (eq-of-mul-eq-mul-right c h a b (ap natAbs e))
-factor-cancels (pos a) (negsuc b) c h e = absurd (clash (a * c) (suc b * c) (mul-pos (omega arith) h) e)
-  where
-    clash : (x y : ℕ) → 0 < y → pos x ≡ negℤ (pos y) → ⊥
-    clash x y p e = omega (arith, ints)
-factor-cancels (negsuc a) (pos b) c h e = absurd (clash (b * c) (suc a * c) (mul-pos (omega arith) h) (sym e))
-  where
-    clash : (x y : ℕ) → 0 < y → pos x ≡ negℤ (pos y) → ⊥
-    clash x y p e = omega (arith, ints)
+factor-cancels (pos a) (negsuc b) c h e = absurd (no-sign (a * c) (suc b * c) (mul-pos (omega arith) h) e)
+factor-cancels (negsuc a) (pos b) c h e = absurd (no-sign (b * c) (suc a * c) (mul-pos (omega arith) h) (sym e))
 factor-cancels (negsuc a) (negsuc b) c h e = whole a b (eq-of-mul-eq-mul-right c h (suc a) (suc b) (same (suc a * c) (suc b * c) e))
   where
     same : (x y : ℕ) → negℤ (pos x) ≡ negℤ (pos y) → x ≡ y
     same x y e = omega (arith, ints)
     whole : (a b : ℕ) → suc a ≡ suc b → negsuc a ≡ negsuc b
     whole a b e = ap negsuc (omega arith)
-
--- a natural number is no negative
-pub no-sign : (a b : ℕ) → 0 < b → pos a ≡ negℤ (pos b) → ⊥
-no-sign a b h e = omega (arith, ints)
 
 -- an exact quotient
 quot-neg : (x d : ℕ) → quotZ (negℤ (pos x)) (pos d) ≡ negℤ (pos (x / d))

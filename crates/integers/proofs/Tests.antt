@@ -19,7 +19,8 @@ pub both : (a b : Bool) → T (a && b) → T a × T b
 both true b t = (tt, t)
 both false b t = absurd t
 
-decided : (b c : Bool) → (T b → T c) → (T c → T b) → b ≡ c
+-- two tests that pass together are one
+pub decided : (b c : Bool) → (T b → T c) → (T c → T b) → b ≡ c
 decided true true f g = refl
 decided true false f g = absurd (f tt)
 decided false true f g = absurd (g tt)

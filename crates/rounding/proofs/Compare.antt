@@ -17,6 +17,7 @@ use Rattle.std.proofs.shelf.Ways.{tells}
 use Rattle.std.specs.Floats.{withSign}
 use lib.Ieee.Fits.{down-pos}
 use lib.Ieee.Scale.{finite}
+use Rattle.integers.proofs.Tests.{decided}
 use Rattle.rounding.specs.Value.{signed, magnitude, value}
 use Rattle.rounding.proofs.Floats.{Held, own}
 
@@ -46,25 +47,19 @@ below-in false a true b h = absurd (omega (arith, neg-is (pos b)))
 below-in true a false b h = lt→ltb 0 (a + b) (omega (arith, neg-is (pos a)))
 below-in true a true b h = lt→ltb b a (omega (arith, neg-is (pos a), neg-is (pos b)))
 
-same-bool : (x y : Bool) → (T x → T y) → (T y → T x) → x ≡ y
-same-bool true true f g = refl
-same-bool true false f g = absurd (f tt)
-same-bool false true f g = absurd (g tt)
-same-bool false false f g = refl
-
 -- the order of the signed sizes does not change with the unit
 order-scaled : (s : Bool) (a : ℕ) (t : Bool) (b A B L c : ℕ) → 0 < c → 0 < L → a * L ≡ A * c → b * L ≡ B * c → below s a t b ≡ below s A t B
-order-scaled false a false b A B L c C P e f = let r = scaled a b A B L c C P e f in same-bool (ltb a b) (ltb A B) (λ h. lt→ltb A B (r .0 (ltb→lt a b h))) (λ h. lt→ltb a b (r .1 (ltb→lt A B h)))
+order-scaled false a false b A B L c C P e f = let r = scaled a b A B L c C P e f in decided (ltb a b) (ltb A B) (λ h. lt→ltb A B (r .0 (ltb→lt a b h))) (λ h. lt→ltb a b (r .1 (ltb→lt A B h)))
 order-scaled false a true b A B L c C P e f = refl
 order-scaled true a false b A B L c C P e f =
     let r = scaled 0 (a + b) 0 (A + B) L c C P (nil L c) (both a b A B L c e f) in
-    same-bool (ltb 0 (a + b)) (ltb 0 (A + B)) (λ h. lt→ltb 0 (A + B) (r .0 (ltb→lt 0 (a + b) h))) (λ h. lt→ltb 0 (a + b) (r .1 (ltb→lt 0 (A + B) h)))
+    decided (ltb 0 (a + b)) (ltb 0 (A + B)) (λ h. lt→ltb 0 (A + B) (r .0 (ltb→lt 0 (a + b) h))) (λ h. lt→ltb 0 (a + b) (r .1 (ltb→lt 0 (A + B) h)))
   where
     nil : (L c : ℕ) → 0 * L ≡ 0 * c
     nil L c = omega arith
     both : (a b A B L c : ℕ) → a * L ≡ A * c → b * L ≡ B * c → (a + b) * L ≡ (A + B) * c
     both a b A B L c e f = omega arith
-order-scaled true a true b A B L c C P e f = let r = scaled b a B A L c C P f e in same-bool (ltb b a) (ltb B A) (λ h. lt→ltb B A (r .0 (ltb→lt b a h))) (λ h. lt→ltb b a (r .1 (ltb→lt B A h)))
+order-scaled true a true b A B L c C P e f = let r = scaled b a B A L c C P f e in decided (ltb b a) (ltb B A) (λ h. lt→ltb B A (r .0 (ltb→lt b a h))) (λ h. lt→ltb b a (r .1 (ltb→lt B A h)))
 
 pub lt-value : (f : Format) (x y : Float) → Held f x → Held f y → lt x y ≡ ltZ (value f x) (value f y)
 unfolding lt value
@@ -78,7 +73,7 @@ lt-value f (fin s m e) (fin t n d) hx hy =
     order-scaled s (m * up e * down d) t (n * up d * down e) A B (2 ^ low f) (down e * down d) (mul-pos (down-pos e) (down-pos d)) (pow-pos (low f))
     (over (m * up e) (down d) (2 ^ low f) (down e) A (own f s m e (hx .0)))
     (over (n * up d) (down e) (2 ^ low f) (down d) B (own f t n d (hy .0)) ∙ ap (λ (z : ℕ). B * z) (mul-comm (down d) (down e)))
-    ∙ same-bool (below s A t B) (ltZ (signed s A) (signed t B)) (λ h. lt-in (signed s A) (signed t B) (below-out s A t B h)) (λ h. below-in s A t B (lt-T (signed s A) (signed t B) h))
+    ∙ decided (below s A t B) (ltZ (signed s A) (signed t B)) (λ h. lt-in (signed s A) (signed t B) (below-out s A t B h)) (λ h. below-in s A t B (lt-T (signed s A) (signed t B) h))
   where
     over : (x d L e M : ℕ) → x * L ≡ M * e → x * d * L ≡ M * (e * d)
     over x d L e M h = mul-right-comm x d L ∙ ap (λ (z : ℕ). z * d) h ∙ mul-assoc M e d

@@ -55,9 +55,6 @@ module _ (β p Q : ℕ) (base : 2 ≤ β) (digits : 1 ≤ p) (scale : 1 ≤ Q) w
   abbrev U : ℕ
   U = 2 * β ^ (p - 1)
 
-  rounds-at : (n d : ℕ) → 0 < d → Rounds β p n d (R n d)
-  rounds-at = rounds β p base digits
-
   -- ---- the relative error
   close-from : (z : ℤ) (d : ℕ) → Tight U (natAbs z * Q) (R (natAbs z * Q) d * d) → Close β p Q z d (N β p Q base digits scale z d)
   close-from z d t = record {
@@ -68,7 +65,7 @@ module _ (β p Q : ℕ) (base : 2 ≤ β) (digits : 1 ≤ p) (scale : 1 ≤ Q) w
   whole-close z = close-from z Q (tight β p base digits (natAbs z * Q) Q _ scale a (λ e. inl (exact e)))
     where
       a : Rounds β p (natAbs z * Q) Q (R (natAbs z * Q) Q)
-      a = rounds-at (natAbs z * Q) Q scale
+      a = rounds β p base digits (natAbs z * Q) Q scale
       exact : a .e ≡ 0 → R (natAbs z * Q) Q * Q ≡ natAbs z * Q
       exact e = exact-out β p base digits _ Q _ (natAbs z) scale a (ap (λ x. natAbs z * x) (rw (e, pow-zero β) (sym (once Q))))
         where
@@ -76,7 +73,7 @@ module _ (β p Q : ℕ) (base : 2 ≤ β) (digits : 1 ≤ p) (scale : 1 ≤ Q) w
           once x = omega arith
 
   large-tight : (n d : ℕ) → 0 < d → β ^ (p - 1) < R n d → Tight U n (R n d * d)
-  large-tight n d h k = tight β p base digits n d (R n d) h (rounds-at n d h) (λ e. inr k)
+  large-tight n d h k = tight β p base digits n d (R n d) h (rounds β p base digits n d h) (λ e. inr k)
 
   pub fraction-close : (z : ℤ) (d : ℕ) → 0 < d → β ^ (p - 1) < natAbs (N β p Q base digits scale z d) → Close β p Q z d (N β p Q base digits scale z d)
   fraction-close z d h k = close-from z d (large-tight (natAbs z * Q) d h (rw (abs-rounding β p Q base digits scale z d) at k))
@@ -84,7 +81,7 @@ module _ (β p Q : ℕ) (base : 2 ≤ β) (digits : 1 ≤ p) (scale : 1 ≤ Q) w
   -- ---- the error part of a whole number of units
   -- n / d, where it is z units, is rounded as those
   rounds-whole : (n d z : ℕ) → 0 < d → n ≡ z * d → Rounds β p z 1 (R n d)
-  rounds-whole n d z h e = subst (Rounds β p z 1) (one-rounds β p base digits z 1 n d _ _ (omega arith) h (sym e ∙ sym (once n)) (rounds-at z 1 (omega arith)) (rounds-at n d h)) (rounds-at z 1 (omega arith))
+  rounds-whole n d z h e = subst (Rounds β p z 1) (one-rounds β p base digits z 1 n d _ _ (omega arith) h (sym e ∙ sym (once n)) (rounds β p base digits z 1 (omega arith)) (rounds β p base digits n d h)) (rounds β p base digits z 1 (omega arith))
     where
       once : (x : ℕ) → x * 1 ≡ x
       once x = omega arith

@@ -26,7 +26,7 @@ use Rattle.rounding.proofs.Split.{pow-le, Parts}
 use Rattle.rounding.proofs.TwoProduct.{Sized, Places, size-le, size-mul}
 use Rattle.rounding.proofs.ModelNearest.{nearest-neg}
 use Rattle.rounding.proofs.Floats.{digits, Held, value-rep, value-is, value-size, prec-is, mul-nearest, round-under, round-val, size-signed, own}
-use Rattle.rounding.proofs.FloatSums.{Op, within-up, sub-op}
+use Rattle.rounding.proofs.FloatSums.{Op, within-up, sub-op, left-within}
 use Rattle.rounding.proofs.Scaled.{times-back, sized, parts, exponents-low, exponents-high, Whole, whole-div, size-times, Ready, wholes, quotient, two-product-units}
 
 -- ---- the split
@@ -303,9 +303,7 @@ tail-within f n l a b h L N ha hb wa wb t w o =
     let s = two-product-floats f n l a b h L ha hb wa wb t w o .1 in
     let e : x +ℤ y ≡ G .0 = times-back (2 ^ low f) (x +ℤ y) (G .0) (pow-pos (low f)) (s ∙ G .1) in
     let z = error-within (suc (digits f)) n (G .0) x (omega arith) N (G .2) w in
-    le-trans (le-of-eq (sym (value-size f (tail f a b (mul f a b))))) (size-le (2 ^ n) y (rest-within (2 ^ n) x y (x +ℤ y) (G .0) (sum-is x y) e z))
+    le-trans (le-of-eq (sym (value-size f (tail f a b (mul f a b))))) (size-le (2 ^ n) y (left-within (2 ^ n) x y (x +ℤ y) (G .0) (sum-is x y) e z))
   where
     less : (n r t : ℕ) → n + (8 + r) < t → n + (6 + r) < t
     less n r t h = omega arith
-    rest-within : (c : ℕ) (x y s v : ℤ) → Sum x y s → s ≡ v → Near c v x → Within c y
-    rest-within c x y s v h e n = omega (arith, same-out s v e)

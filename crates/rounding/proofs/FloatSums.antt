@@ -76,6 +76,10 @@ two-sum-floats f n a b h ha hb la lb =
       two-sum (digits f) (value f a) (value f b) (value f x) (value f z) (value f u) (value f v) (value f w) (value f (add f v w)) (some-digits f) (value-rep f a ha) (value-rep f b hb) (X .near) (Z .near) (U .near) (V .near) (W .near) (Y .near),
     )
 
+-- where x is near the sum of x and y, y is small
+pub left-within : (c : ℕ) (x y s v : ℤ) → Sum x y s → s ≡ v → Near c v x → Within c y
+left-within c x y s v e g n = omega (arith, same-out s v g)
+
 -- the error part is no larger than the limit
 pub rest-within : (f : Format) (n : ℕ) (a b : Float) → 5 + n < low f + suc (emax f) → Held f a → Held f b → Within (2 ^ n) (value f a) → Within (2 ^ n) (value f b)
     → Within (2 ^ n) (value f (rest f a b (add f a b)))
@@ -86,9 +90,7 @@ rest-within f n a b h ha hb la lb =
     let x = value f (add f a b) in
     let y = value f (rest f a b (add f a b)) in
     let c = t .0 .near .best B (2 ^ n) (value-rep f b hb) (near-b (2 ^ n) A B (A +ℤ B) (sum-is A B) la) in
-    left (2 ^ n) x y (x +ℤ y) (A +ℤ B) (sum-is x y) (t .2) c
+    left-within (2 ^ n) x y (x +ℤ y) (A +ℤ B) (sum-is x y) (t .2) c
   where
     near-b : (c : ℕ) (a b s : ℤ) → Sum a b s → Within c a → Near c s b
     near-b c a b s e w = omega arith
-    left : (c : ℕ) (x y s v : ℤ) → Sum x y s → s ≡ v → Near c v x → Within c y
-    left c x y s v e g n = omega (arith, same-out s v g)

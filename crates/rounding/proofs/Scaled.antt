@@ -14,7 +14,7 @@ use borrow.Author.Differences.{up, down, same-in, same-out, sum-is, product-is}
 use Rattle.rounding.proofs.BinaryNearest.{Under, Within, Over, Div, Rep, Nearest, times, times-is, div-down, rep-times, nearest-times}
 use Rattle.rounding.proofs.TwoSum.{Sum, sub-is, one-side, size-over, Normal, normal}
 use Rattle.rounding.proofs.Split.{Parts, Factor, split, pow-le}
-use Rattle.rounding.proofs.TwoProduct.{Sized, Places, two-product, div-pow, within-pow, over-pow, size-le}
+use Rattle.rounding.proofs.TwoProduct.{Sized, Places, under-within, two-product, div-pow, within-pow, over-pow, size-le}
 
 -- ---- laws of `times`
 pub times-sum : (m : ℕ) (a b s : ℤ) → Sum a b s → Sum (times m a) (times m b) (times m s)
@@ -114,15 +114,12 @@ size-times m x = omega (arith, times-is m x)
 pub exponents-low : (q i j e : ℕ) (a b : ℤ) → Sized q i (times (2 ^ suc q) a) → Sized q j (times (2 ^ suc q) b) → Over (2 ^ e) (a *ℤ b) → e ≤ i + j
 exponents-low q i j e a b A B o =
     let p = suc q in
-    let W = within-pow (p + i) (p + j) (p + p + (i + j)) (times (2 ^ p) a) (times (2 ^ p) b) (omega arith) (weak (2 ^ (p + i)) (times (2 ^ p) a) (A .lt)) (weak (2 ^ (p + j)) (times (2 ^ p) b) (B .lt)) in
+    let W = within-pow (p + i) (p + j) (p + p + (i + j)) (times (2 ^ p) a) (times (2 ^ p) b) (omega arith) (under-within (2 ^ (p + i)) (times (2 ^ p) a) (A .lt)) (under-within (2 ^ (p + j)) (times (2 ^ p) b) (B .lt)) in
     let s1 = size-le (2 ^ (p + p + (i + j))) (times (2 ^ (p + p)) (a *ℤ b)) (subst (Within (2 ^ (p + p + (i + j)))) (fine-product p a b) W) in
     let l : 2 ^ e * 2 ^ (p + p) ≤ (up (a *ℤ b) + down (a *ℤ b)) * 2 ^ (p + p) = mul-le-mul-right (2 ^ (p + p)) (size-over (2 ^ e) (a *ℤ b) o) in
     let k : 2 ^ (e + (p + p)) ≤ 2 ^ (p + p + (i + j)) = omega (arith, pow-add 2 e (p + p), size-times (2 ^ (p + p)) (a *ℤ b)) in
     let m = pow-le-back (e + (p + p)) (p + p + (i + j)) k in
     omega arith
-  where
-    weak : (c : ℕ) (x : ℤ) → Under c x → Within c x
-    weak c x h = omega arith
 
 pub exponents-high : (q i j e : ℕ) (a b : ℤ) → Sized q i (times (2 ^ suc q) a) → Sized q j (times (2 ^ suc q) b) → Within (2 ^ e) (a *ℤ b) → i + j ≤ 2 + e
 exponents-high q i j e a b A B w =

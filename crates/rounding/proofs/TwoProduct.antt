@@ -142,7 +142,7 @@ pub record Sized (q i : ℕ) (a : ℤ) : Type 0 where
   pub lt : Under (2 ^ (suc q + i)) a
   pub ge : Over (2 ^ (q + i)) a
 
-under-within : (c : ℕ) (x : ℤ) → Under c x → Within c x
+pub under-within : (c : ℕ) (x : ℤ) → Under c x → Within c x
 under-within c x h = omega arith
 
 -- q + 1 is the number of digits and r + 1 the place of the split
