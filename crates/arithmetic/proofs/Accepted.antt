@@ -1,19 +1,19 @@
 -- What the rules say of an accepted operation: its result is a number, and near the exact result with the scale cancelled.
 -- Where nothing is rounded (a zero or a one as operand) the result is the operand.
-use Prim.Native.Nat.{ℕ, zero, suc, _+_, _-_, _*_, _/_, _≤_, _<_}
+use Prim.Native.Nat.{ℕ, _-_, _*_, _/_, _≤_, _<_}
 use native.Mathlib.Omega.{arith}
-use native.Mathlib.Nat.{mul-le-mul-left, mul-le-mul-right, le-of-mul-le-mul-left, le-of-mul-le-mul-right, mul-pos, zero-div, mul-assoc, mul-comm}
-use mathlib.Core.Path.{_≡_, refl, sym, ap, _∙_, subst}
-use mathlib.Core.Bool.{Bool, true, false, cond, _&&_, _||_}
-use mathlib.Core.Option.{Option, none, some}
-use mathlib.Core.Logic.{_⊎_, inl, inr, ⊎-elim}
+use native.Mathlib.Nat.{mul-pos, zero-div, mul-comm}
+use mathlib.Core.Path.{_≡_, sym, ap, _∙_, subst}
+use mathlib.Core.Bool.{_&&_, _||_}
+use mathlib.Core.Option.{some}
+use mathlib.Core.Logic.{⊎-elim}
 use lib.Dec.{T, leb, eqb, leb→le, eqb→eq, lit≤}
-use lib.IntN.{ℤ, pos, negsuc, _+ℤ_, _-ℤ_, _*ℤ_, negℤ, natAbs, +ℤ-idl, +ℤ-idr, *ℤ-zero}
+use lib.IntN.{ℤ, pos, negsuc, _+ℤ_, _*ℤ_, natAbs, +ℤ-idl, +ℤ-idr, *ℤ-zero}
 use Rattle.std.proofs.shelf.Signed.{ints}
 use Rattle.integers.proofs.Integers.{abs-mul, times-times}
 use Rattle.integers.proofs.Tests.{some-from, either, both}
 use Rattle.arithmetic.specs.Meaning.{Meaning, Number}
-use Rattle.arithmetic.specs.Operations.{sum, product, lift, grain, not-above, in-range, size}
+use Rattle.arithmetic.specs.Operations.{sum, product, lift, grain, in-range, size}
 use Rattle.arithmetic.specs.Rules.{Close, Rules}
 use Rattle.arithmetic.proofs.Near.{Near, near-without}
 

@@ -1,18 +1,17 @@
 -- What an operation answers, from the rounding of its exact result and that rounding's size: for any meaning, so that every
 -- implementation owes only that its result is the rounding.
-use Prim.Native.Nat.{ℕ, zero, suc, _+_, _-_, _*_, _≤_, _<_}
+use Prim.Native.Nat.{ℕ, _-_, _*_, _≤_}
 use native.Mathlib.Omega.{arith}
-use native.Mathlib.Nat.{eq-of-mul-eq-mul-right, mul-pos}
-use mathlib.Core.Path.{_≡_, refl, sym, ap, _∙_, subst}
-use mathlib.Core.Bool.{Bool, true, false, not, cond, _&&_, _||_}
-use mathlib.Core.Option.{Option, none, some}
-use lib.Dec.{T, leb, eqb, leb→le, le→leb, eqb→eq}
-use lib.IntN.{ℤ, pos, negsuc, _+ℤ_, _-ℤ_, _*ℤ_, *ℤ-comm, negℤ, natAbs}
+use mathlib.Core.Path.{_≡_, refl, sym, ap, _∙_}
+use mathlib.Core.Bool.{Bool, true, false, cond, _&&_, _||_}
+use mathlib.Core.Option.{none, some}
+use lib.Dec.{T, leb, eqb, leb→le}
+use lib.IntN.{ℤ, pos, _+ℤ_, _-ℤ_, _*ℤ_, *ℤ-comm, natAbs}
 use Rattle.std.proofs.shelf.Signed.{ints}
 use Rattle.integers.proofs.Integers.{factor-cancels}
 use Rattle.integers.proofs.Tests.{leb-yes, leb-no, eqb-no}
 use Rattle.arithmetic.specs.Meaning.{Meaning, Number}
-use Rattle.arithmetic.specs.Operations.{sum, product, lift, in-range, not-above, Split, with-error, sum-split, product-split, sum-error, product-error}
+use Rattle.arithmetic.specs.Operations.{sum, product, lift, in-range, not-above, with-error, sum-split, product-split, sum-error, product-error}
 use Rattle.arithmetic.specs.Rules.{Rules}
 
 pub sum-is : (m : Meaning) (a b v : ℤ) → m .rounding (a +ℤ b) (m .Q) ≡ v → natAbs v ≤ m .high → some v ≡ sum m a b

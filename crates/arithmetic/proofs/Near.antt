@@ -1,9 +1,9 @@
 -- A rounded result near its exact one: by at most u times the exact one, and by at most u times the rounded one. U is 1/u.
-use Prim.Native.Nat.{ℕ, zero, suc, _+_, _-_, _*_, _≤_, _<_}
+use Prim.Native.Nat.{ℕ, suc, _+_, _*_, _≤_, _<_}
 use native.Mathlib.Omega.{arith}
 use native.Mathlib.Nat.{mul-le-mul-left, mul-le-mul-right, le-of-mul-le-mul-right}
-use mathlib.Core.Path.{_≡_, refl, sym, ap, _∙_}
-use lib.IntN.{ℤ, pos, negsuc, _+ℤ_, _-ℤ_, _*ℤ_, negℤ, natAbs}
+use mathlib.Core.Path.{_≡_, refl, ap, _∙_}
+use lib.IntN.{ℤ, pos, negsuc, _-ℤ_, _*ℤ_, natAbs}
 use Rattle.std.proofs.shelf.Signed.{ints}
 use Rattle.integers.proofs.Ring.{ring, at, num, _⊕_, _⊗_, ⊖_}
 use Rattle.integers.proofs.Integers.{abs-mul}

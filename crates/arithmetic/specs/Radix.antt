@@ -1,6 +1,5 @@
 -- The arithmetics of p digits in radix β, with β^q units to 1: binary64, binary32 and decimal with d digits are such.
 use Prim.Native.Nat.{ℕ, _*_, _-_, _^_}
-use mathlib.Core.Path.{_≡_}
 use mathlib.Core.List.{List}
 use lib.IntN.{ℤ}
 use Rattle.rounding.specs.Radix.{rounding}

@@ -1,5 +1,5 @@
 -- Two values around one exact number, given in two scales, differ by at most both bounds.
-use Prim.Native.Nat.{ℕ, zero, suc, _+_, _-_, _*_, _^_, _≤_, _<_}
+use Prim.Native.Nat.{ℕ, zero, suc, _+_, _*_, _≤_, _<_}
 use native.Mathlib.Omega.{arith}
 use native.Mathlib.Nat.{mul-le-mul-right, le-of-mul-le-mul-right, mul-pos}
 use mathlib.Core.Path.{_≡_, refl, sym, ap, _∙_}
@@ -7,7 +7,6 @@ use lib.IntN.{ℤ, pos, _+ℤ_, _-ℤ_, _*ℤ_, negℤ, natAbs}
 use Rattle.std.proofs.shelf.Signed.{ints}
 use Rattle.integers.proofs.Ring.{ring, at, num, _⊕_, _⊗_, ⊖_}
 use Rattle.integers.proofs.Integers.{abs-mul, abs-tri, abs-neg}
-use Rattle.arithmetic.specs.Meaning.{number}
 use Rattle.coefficients.specs.Exact.{signed}
 
 crossed : (P Q p q : ℕ) (v v′ s s′ : ℤ) → (v *ℤ pos Q -ℤ v′ *ℤ pos P) *ℤ pos (p * q) ≡

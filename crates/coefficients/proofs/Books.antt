@@ -2,7 +2,7 @@
 -- answer there is the one defined, so it was closed or judged from that state. Then (a) is the enclosure of a closed cell, (b)
 -- the meaning of a verdict, and (c) two enclosures of one exact number. The law at one call is the law at the last place of a
 -- book that ends with it.
-use Prim.Native.Nat.{ℕ, zero, suc, _+_, _-_, _*_, _^_, _≤_, _<_}
+use Prim.Native.Nat.{ℕ, zero, suc, _*_, _^_, _≤_, _<_}
 use native.Mathlib.Omega.{arith}
 use native.Mathlib.Nat.{pow-zero}
 use mathlib.Core.Path.{_≡_, refl, sym, ap, _∙_, subst}

@@ -1,5 +1,5 @@
 -- The inequalities of the closing and of the verdict, over the natural numbers. U is 1/u.
-use Prim.Native.Nat.{ℕ, _+_, _-_, _*_, _≤_, _<_}
+use Prim.Native.Nat.{ℕ, _+_, _*_, _≤_, _<_}
 use native.Mathlib.Omega.{arith}
 use native.Mathlib.Nat.{mul-le-mul-left, mul-le-mul-right, le-of-mul-le-mul-left, mul-pos, lt-of-not-le, not-le-of-lt}
 use mathlib.Core.Path.{_≡_, ap}

@@ -1,5 +1,5 @@
 -- The inequalities of the running error bound, over the natural numbers. U is 1/u.
-use Prim.Native.Nat.{ℕ, zero, suc, _+_, _-_, _*_, _≤_, _<_, _^_}
+use Prim.Native.Nat.{ℕ, zero, suc, _+_, _*_, _≤_, _<_, _^_}
 use native.Mathlib.Omega.{arith}
 use native.Mathlib.Nat.{mul-le-mul-left, mul-le-mul-right, le-of-mul-le-mul-left, mul-pos, pow-suc, pow-zero}
 use mathlib.Core.Path.{_≡_, ap}

@@ -10,7 +10,7 @@ use Rattle.std.proofs.shelf.Signed.{ints}
 use Rattle.integers.proofs.Ring.{ring, at, num, _⊕_, _⊗_, ⊖_}
 use Rattle.integers.proofs.Integers.{abs-mul, abs-tri, spread, times-times, *ℤ-assoc}
 use Rattle.arithmetic.specs.Meaning.{Meaning, Number}
-use Rattle.arithmetic.specs.Operations.{sum, size}
+use Rattle.arithmetic.specs.Operations.{size}
 use Rattle.arithmetic.specs.Rules.{Rules}
 use Rattle.arithmetic.proofs.Near.{Near, near-times, Natural, near-natural, exact-size}
 use Rattle.arithmetic.proofs.Accepted.{sum-number, product-number, size-number, sum-near, product-near, sum-zero-left, sum-zero-right, product-zero, product-one, zero-is-number}

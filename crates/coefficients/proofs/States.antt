@@ -1,7 +1,7 @@
 -- What a state holds of the zeros then held: their count, and a row in which every cell holds what it should of the exact S of
 -- its order. Every call keeps it: an accepted addition by one zero more, an accepted clearing from the start, and every other
 -- call because it leaves row and count.
-use Prim.Native.Nat.{ℕ, suc, _+_, _-_, _≤_, _<_, min}
+use Prim.Native.Nat.{ℕ, suc, _≤_, _<_, min}
 use native.Mathlib.Omega.{arith}
 use mathlib.Core.Path.{_≡_, refl, _∙_}
 use mathlib.Core.Bool.{Bool, true, false, cond, _&&_}

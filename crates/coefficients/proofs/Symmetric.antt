@@ -1,5 +1,5 @@
 -- The elementary symmetric sums: their recurrences, one zero more at the end, and that their order does not matter.
-use Prim.Native.Nat.{ℕ, zero, suc, _+_, _-_, _*_, _^_, _<_}
+use Prim.Native.Nat.{ℕ, zero, suc, _+_, _*_, _^_, _<_}
 use native.Mathlib.Omega.{arith}
 use native.Mathlib.Nat.{pow-succ', pow-zero}
 use mathlib.Core.Path.{_≡_, refl, sym, ap, _∙_, subst}

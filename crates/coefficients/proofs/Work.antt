@@ -1,5 +1,5 @@
 -- What an accepted chain of operations says.
-use Prim.Native.Nat.{ℕ, _-_}
+use Prim.Native.Nat.{ℕ}
 use native.Mathlib.Omega.{arith}
 use mathlib.Core.Path.{_≡_, refl, subst}
 use mathlib.Core.Option.{Option, none, some}
@@ -23,7 +23,7 @@ parted (some r) f s e = subst (Parted (some r) f) k (record { main-is = refl; er
     k : record { main = r; error = f r } ≡ s
     k = cc
 
--- an order that was row-after
+-- an order that was worked
 pub record Did (m : Meaning) (x : ℤ) (c c₀ c′ : Cell) : Type 0 where
   pub p : ℤ
   pub β : ℤ

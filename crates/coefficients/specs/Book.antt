@@ -1,6 +1,5 @@
 -- The book of a bench: its calls with their arguments and answers, from the making on. What it says of the zeros held is read
 -- off the entries alone.
-use Prim.Native.Nat.{ℕ}
 use mathlib.Core.Path.{_≡_}
 use mathlib.Core.Bool.{Bool, true, false, cond}
 use mathlib.Core.List.{List, [], _∷_, _++_}

@@ -1,7 +1,7 @@
 -- The six calls of a bench: `step` gives the answer of each and the state after it. The questions of a call are asked in the
 -- order of the conditions; the first one answered no gives the refusal's number and details, and the state stays.
 use Prim.Native.Nat.{ℕ, suc, _-_, min}
-use mathlib.Core.Bool.{Bool, cond, _&&_}
+use mathlib.Core.Bool.{cond, _&&_}
 use mathlib.Core.List.{List, [], _∷_}
 use mathlib.Core.Option.{Option, none, some}
 use lib.Dec.{leb, ltb, eqb}

@@ -3,10 +3,10 @@ use Prim.Native.Nat.{ℕ, zero, suc, _+_, _*_, _/_, _≤_, _<_}
 use native.Mathlib.Omega.{arith}
 use native.Mathlib.Nat.{eq-of-mul-eq-mul-right, mul-pos, zero-div, mul-div-cancel}
 use mathlib.Core.Path.{_≡_, refl, sym, ap, _∙_}
-use lib.IntN.{ℤ, pos, negsuc, _+ℤ_, _-ℤ_, _*ℤ_, negℤ, natAbs}
+use lib.IntN.{ℤ, pos, negsuc, _+ℤ_, _*ℤ_, negℤ, natAbs}
 use lib.Signed.{quotZ}
 use Rattle.std.proofs.shelf.Signed.{ints}
-use Rattle.integers.proofs.Ring.{ring, at, num, _⊕_, _⊗_, ⊖_}
+use Rattle.integers.proofs.Ring.{ring, at, num, _⊕_, _⊗_}
 
 pub *ℤ-assoc : (a b c : ℤ) → (a *ℤ b) *ℤ c ≡ a *ℤ (b *ℤ c)
 *ℤ-assoc a b c = ring ((at a ⊗ at b) ⊗ at c) (at a ⊗ (at b ⊗ at c)) (omega arith)

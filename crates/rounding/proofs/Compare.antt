@@ -1,18 +1,18 @@
 -- Comparisons of floats are comparisons of the numbers that they stand for. The model compares two fractions over a common
 -- denominator; a unit is a common denominator too, and the order does not depend on which is taken. The size of a float is
 -- a float too, which stands for the magnitude.
-use mathlib.Core.Path.{_≡_, refl, sym, ap, _∙_, subst}
+use mathlib.Core.Path.{_≡_, refl, ap, _∙_}
 use mathlib.Core.Bool.{Bool, true, false, not, _||_}
-use Prim.Native.Nat.{ℕ, zero, suc, _+_, _*_, _^_, _≤_, _<_}
+use Prim.Native.Nat.{ℕ, zero, suc, _+_, _*_, _^_, _<_}
 use native.Mathlib.Nat.{mul-comm, mul-assoc, mul-right-comm, mul-pos, mul-lt-mul-of-pos-right, lt-of-mul-lt-mul-right}
 use native.Mathlib.Omega.{arith}
-use lib.Dec.{T, ltb, ltb→lt, lt→ltb, nltb→le}
+use lib.Dec.{T, ltb, ltb→lt, lt→ltb}
 use lib.Pow.{pow-pos}
 use lib.IntN.{ℤ, pos}
 use lib.Signed.{ltZ}
 use borrow.Author.Differences as D
 use borrow.Author.Differences.{neg-is, lt-T, lt-in}
-use lib.Ieee.{Float, nan, inf, fin, Format, low, up, down, lt, le, eq, below, level, fits}
+use lib.Ieee.{Float, nan, inf, fin, Format, low, up, down, lt, le, below, level, fits}
 use Rattle.std.proofs.shelf.Ways.{tells}
 use Rattle.std.specs.Floats.{withSign}
 use lib.Ieee.Fits.{down-pos}

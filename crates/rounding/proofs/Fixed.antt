@@ -1,18 +1,13 @@
 -- Rounding leaves a whole number of units that has p binary digits unchanged: what is rounded is nearest, and a number of
 -- p digits is nearest to itself alone.
 use mathlib.Core.Path.{_≡_, sym, ap, _∙_, subst}
-use Prim.Native.Nat.{ℕ, suc, _-_, _*_, _/_, _%_, _^_, _≤_, _<_, compare}
-use native.Mathlib.Nat.{le-trans, one-mul, div-one, div-div-eq-div-mul, mul-le-mul-right}
-use native.Mathlib.Omega.{arith}
-use lib.Pow.{pow-add}
+use Prim.Native.Nat.{ℕ, suc, _-_, _*_, _^_}
+use native.Mathlib.Nat.{one-mul, div-one}
 use lib.IntN.{ℤ, pos, negsuc, negℤ}
 use lib.Ieee.{size}
-use lib.Ieee.Fits.{kept-lt, nearest-le}
 use lib.Ieee.Nearest.{closest}
-use lib.Ieee.Order.{kept, drop}
 use Rattle.rounding.proofs.Model.{rounded, rounding}
-use Rattle.rounding.proofs.BinaryNearest.{Nearest, Rep, rep-in, exact}
-use Rattle.rounding.proofs.TwoSum.{rep-neg}
+use Rattle.rounding.proofs.BinaryNearest.{Nearest, Rep, exact}
 use Rattle.rounding.proofs.ModelNearest.{round-nearest, nearest-neg}
 
 rounded-one : (p n : ℕ) → closest n (2 ^ (size n - p)) * 2 ^ (size n - p) ≡ rounded p n 1

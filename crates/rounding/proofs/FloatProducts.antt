@@ -12,7 +12,7 @@ use lib.Dec.{T, lit<, lit≤}
 use lib.Pow.{pow-pos, pow-add, pow-mono}
 use lib.IntN.{ℤ, pos, _+ℤ_, _-ℤ_, _*ℤ_, negℤ}
 use borrow.Author.Differences as D
-use borrow.Author.Differences.{same-in, same-out, sum-is, neg-is, product-is}
+use borrow.Author.Differences.{same-in, sum-is, neg-is, product-is}
 use lib.Ieee.{Float, nan, inf, fin, Format, binary32, binary64, prec, emax, low, up, down, size, sub, mul, round, unlike, fits, ofBits}
 use lib.Ieee.Digits.{size-le as digits-le}
 use lib.Ieee.Fits.{mul-fits, kept-lt, nearest-le, down-pos}

@@ -1,26 +1,24 @@
 -- Each float operation gives the rounding of the exact result, or an infinity where that rounding is too large for the
 -- format: sums and products, whose exact results are fractions with a power of two below, and quotients.
 use mathlib.Core.Path.{_≡_, refl, sym, ap, _∙_, subst}
-use mathlib.Core.Logic.{_⊎_, inl, inr}
 use mathlib.Core.Bool.{Bool, true, false, not, cond}
-use Prim.Native.Nat.{ℕ, zero, suc, _+_, _-_, _*_, _/_, _%_, _^_, _≤_, _<_}
-use native.Mathlib.Nat.{mul-assoc, mul-comm, mul-one, mul-pos, zero-mul, mul-le-mul, div-add-mod', mod-lt, div-div-eq-div-mul, div-one, le-div-iff-mul-le, pow-succ'}
+use Prim.Native.Nat.{ℕ, zero, suc, _+_, _-_, _*_, _^_, _≤_, _<_}
+use native.Mathlib.Nat.{mul-assoc, mul-one, mul-pos, zero-mul}
 use native.Mathlib.Omega.{arith}
 use lib.Dec.{T, lit<, eqb, eqb→eq, ltb, nltb→le}
-use lib.Pow.{pow-pos, pow-add}
-use lib.IntN.{ℤ, pos, _+ℤ_, _-ℤ_, _*ℤ_, negℤ}
+use lib.Pow.{pow-pos}
+use lib.IntN.{ℤ, pos, _+ℤ_, _*ℤ_, negℤ}
 use borrow.Author.Differences as D
 use borrow.Author.Differences.{neg-is}
-use lib.Ieee.{Float, nan, inf, fin, Format, prec, low, up, down, size, odd, units, round, add, sub, mul, div, unlike}
+use lib.Ieee.{Float, nan, inf, fin, Format, prec, low, up, down, size, odd, units, round, add, mul, div, unlike}
 use lib.Ieee.Fits.{round-is, down-pos}
 use lib.Ieee.Nearest.{closest, closest-same, div-same}
 use lib.Ieee.Order.{kept, drop}
 use lib.Ieee.Scale.{grid, overflow, finite}
 use Rattle.rounding.specs.Value.{signed, magnitude, value}
 use Rattle.rounding.proofs.Model.{rounded, rounding}
-use Rattle.rounding.proofs.Floats.{Held, OfRound, of-add, of-sub, size-signed, own, value-is, round-under, round-val, unlike-signed}
-use Rattle.rounding.proofs.ModelNearest.{chosen, chosen-zero}
-use lib.Ieee.Digits.{size-reaches}
+use Rattle.rounding.proofs.Floats.{Held, OfRound, of-add, size-signed, own, value-is, round-under, round-val, unlike-signed}
+use Rattle.rounding.proofs.ModelNearest.{chosen-zero}
 
 -- equal fractions
 pub rounded-same : (p n d m e : ℕ) → 0 < d → 0 < e → n * e ≡ m * d → rounded p n d ≡ rounded p m e

@@ -7,7 +7,6 @@ use Prim.Native.Nat.{ℕ, suc, _+_, _^_, _≤_, _<_}
 use native.Mathlib.Omega.{arith}
 use lib.Dec.{T, lit<}
 use lib.IntN.{ℤ, _+ℤ_, _-ℤ_}
-use borrow.Author.Differences as D
 use borrow.Author.Differences.{same-out, sum-is}
 use lib.Ieee.{Float, Format, binary32, binary64, emax, low, add, sub}
 use lib.Ieee.Fits.{add-fits, sub-fits}

@@ -1,5 +1,5 @@
 use mathlib.Core.Path.{sym, ap, _∙_}
-use lib.ListN.{length, replicate, length-set}
+use lib.ListN.{replicate, length-set}
 use lib.Seq.{take-all}
 use native.Mathlib.Omega.{arith}
 use Rattle.row.proofs.Renewal.{fill-more}

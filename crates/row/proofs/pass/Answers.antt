@@ -1,9 +1,9 @@
 use borrow.Author.Needs.{needs}
-use Prim.Native.Nat.{suc, _-_, _<_, _≤_}
-use mathlib.Core.Path.{_≡_, refl, sym, ap, _∙_}
+use Prim.Native.Nat.{suc, _-_, _<_}
+use mathlib.Core.Path.{_≡_, refl, _∙_}
 use native.Mathlib.Omega.{arith}
 use lib.ListN.{length}
-use Rattle.row.proofs.Passes.{Going, numbers-by, starts, writes, tries, refuses, stops, ends, ends-told}
+use Rattle.row.proofs.Passes.{numbers-by, starts, writes, tries, refuses, stops, ends, ends-told}
 use Rattle.row.proofs.pass.Needs as need
 
 pub loop-k-holds : need.loop-k-holds

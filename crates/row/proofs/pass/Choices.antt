@@ -1,5 +1,4 @@
 use mathlib.Core.Path.{_≡_}
-use Prim.Native.Nat.{_≤_}
 use Rattle.row.specs.Reading.{values, Are-numbers}
 use Rattle.row.proofs.Passes.{Going}
 use Rattle.row.proofs.pass.Given as given
