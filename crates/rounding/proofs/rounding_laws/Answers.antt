@@ -1,3 +1,4 @@
+-- The laws of rounding hold in every radix, with every number of digits and every scale.
 use Rattle.rounding.proofs.Laws.{laws}
 use Rattle.rounding.proofs.rounding_laws.Needs as need
 

@@ -1,3 +1,4 @@
+-- The first pass tries the row and leaves it; the second, where nothing left its range, writes what was tried.
 use borrow.Author.Needs.{needs, scaled-fits≤}
 use Prim.Native.Nat.{_≤_}
 use mathlib.Core.Path.{refl, _∙_}

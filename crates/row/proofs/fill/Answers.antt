@@ -1,3 +1,4 @@
+-- Each turn fills one more place, and at the end all places are filled.
 use mathlib.Core.Path.{sym, ap, _∙_}
 use lib.ListN.{replicate, length-set}
 use lib.Seq.{take-all}

@@ -1,3 +1,4 @@
+-- Each turn goes down one order; a refusal ends a pass that tries, and a pass that writes meets none, since it was tried before.
 use borrow.Author.Needs.{needs}
 use Prim.Native.Nat.{suc, _-_, _<_}
 use mathlib.Core.Path.{_≡_, refl, _∙_}

@@ -1,3 +1,4 @@
+-- The loop keeps what holds at order k, that the numbers carried over are numbers, and that the arithmetic is the same.
 use mathlib.Core.Path.{_≡_}
 use Rattle.row.specs.Reading.{values, Are-numbers}
 use Rattle.row.proofs.Passes.{Going}

@@ -1,3 +1,4 @@
+-- The operations come in the order of the definition of a new cell, and the first that leaves its range gives the answer.
 use borrow.Author.Needs.{needs}
 use Rattle.coefficients.specs.Row.{new-cell}
 use Rattle.row.proofs.update.Needs as need
