@@ -1,6 +1,6 @@
 // Shows each refusal that a bench can give, by its number and details, in binary64.
 ghost use mathlib.Core.Path.{_≡_};
-ghost use Prim.Native.Nat.{_<_};
+ghost use Prim.Native.Nat.{_+_, _<_};
 ghost use Rattle.bench.specs.Benches.{Standing};
 use bench::Bench;
 use bench::check_row;
@@ -49,6 +49,8 @@ fn withdraw(bench: &mut Bench<Binary64>, question: Question)
     requires { ⌜ question .bench ≡ now bench .number ⌝ }
     requires { ⌜ 0 < now bench .out ⌝ }
     ensures { λ _. ⌜ Standing (now (bench .exit)) ⌝ }
+    ensures { λ _. ⌜ now (bench .exit) .number ≡ now (bench .entry) .number ⌝ }
+    ensures { λ _. ⌜ now (bench .exit) .out + 1 ≡ now (bench .entry) .out ⌝ }
 {
     match bench.withdraw(&Binary64, question) {
         Ok(()) => {}
@@ -91,18 +93,103 @@ fn marked(bench: &mut Bench<Binary64>, order: u8, claim: &[u8; 8], tolerance: &[
     }
 }
 
-fn main(rt: LibcRuntime) -> io::Result<()> {
-    let short = [EMPTY; 1];
-    if let Err(refusal) = check_row(&short) {
-        println!(rt, "R {refusal}")?;
+// 3: one zero more than 64.
+fn added_65(bench: &mut Bench<Binary64>) -> Option<Refusal>
+    requires { ⌜ Standing (now bench) ⌝ }
+    ensures { λ _. ⌜ Standing (now (bench .exit)) ⌝ }
+{
+    let mut last = None;
+    for _ in 0..65 {
+        last = added(bench, &ZERO);
     }
+    last
+}
+
+// 9: questions are issued until one is refused, and then all are withdrawn.
+fn issued_33(bench: &mut Bench<Binary64>, more: u8) -> Option<Refusal>
+    requires { ⌜ Standing (now bench) ⌝ }
+    ensures { λ _. ⌜ Standing (now (bench .exit)) ⌝ }
+    ensures { λ _. ⌜ now (bench .exit) .number ≡ now (bench .entry) .number ⌝ }
+    ensures { λ _. ⌜ now (bench .exit) .out ≡ now (bench .entry) .out ⌝ }
+{
+    match bench.issue(&Binary64, 0) {
+        Ok(question) => {
+            let refusal = if more == 0 { None } else { issued_33(bench, more - 1) };
+            withdraw(bench, question);
+            refusal
+        }
+        Err(refusal) => Some(refusal),
+    }
+}
+
+// 10: a question of another bench, which is then withdrawn where it was issued.
+fn withdrawn_elsewhere(bench: &mut Bench<Binary64>, other: &mut Bench<Binary64>) -> Option<Refusal>
+    requires { ⌜ Standing (now bench) ⌝ }
+    requires { ⌜ Standing (now other) ⌝ }
+    ensures { λ _. ⌜ Standing (now (bench .exit)) ⌝ }
+    ensures { λ _. ⌜ Standing (now (other .exit)) ⌝ }
+{
+    match other.issue(&Binary64, 0) {
+        Ok(question) => match bench.withdraw(&Binary64, question) {
+            Ok(()) => None,
+            Err(back) => {
+                let GivenBack { question, refusal } = back;
+                withdraw(other, question);
+                Some(refusal)
+            }
+        },
+        Err(refusal) => Some(refusal),
+    }
+}
+
+// Prints a refusal.
+fn show(rt: &LibcRuntime, refusal: Option<Refusal>) -> io::Result<()> {
+    match refusal {
+        Some(refusal) => println!(rt, "R {refusal}"),
+        None => println!(rt, "accepted"),
+    }
+}
+
+// Refusals of a bench of highest order 3.
+fn of_order_3(rt: &LibcRuntime) -> io::Result<()> {
     let mut row = [EMPTY; 4];
     let mut bench = Bench::make(&Binary64, &mut row, 1);
-    if let Some(refusal) = added_while_out(&mut bench) {
-        println!(rt, "R {refusal}")?;
-    }
-    if let Some(refusal) = asked(&bench, 1) {
-        println!(rt, "R {refusal}")?;
-    }
-    Ok(())
+    show(rt, added_while_out(&mut bench))?;
+    show(rt, added_65(&mut bench))?;
+    let mut row = [EMPTY; 4];
+    let mut bench = Bench::make(&Binary64, &mut row, 1);
+    show(rt, added(&mut bench, &TOO_SMALL))?;
+    show(rt, added(&mut bench, &INFINITY))?;
+    show(rt, added(&mut bench, &TOO_LARGE))?;
+    show(rt, asked(&bench, 4))?;
+    // two zeros, and the third order
+    show(rt, added(&mut bench, &ONE))?;
+    show(rt, added(&mut bench, &ONE))?;
+    show(rt, asked(&bench, 3))?;
+    show(rt, marked(&mut bench, 1, &ONE, &MINUS_ONE))?;
+    show(rt, issued_33(&mut bench, 32))
+}
+
+// Refusals of benches of highest order 1, by range.
+fn of_range(rt: &LibcRuntime) -> io::Result<()> {
+    let mut row = [EMPTY; 2];
+    let mut bench = Bench::make(&Binary64, &mut row, 1);
+    let mut other_row = [EMPTY; 2];
+    let mut other = Bench::make(&Binary64, &mut other_row, 2);
+    show(rt, withdrawn_elsewhere(&mut bench, &mut other))?;
+    // the sum of two zeros of 2^900
+    show(rt, added(&mut bench, &LARGEST))?;
+    show(rt, added(&mut bench, &LARGEST))?;
+    // the distance of the claim 2^900 from the coefficient -2^900
+    show(rt, marked(&mut bench, 1, &LARGEST, &ZERO))?;
+    // the error bound of 2^-800 + 2^-860
+    show(rt, added(&mut other, &SMALL))?;
+    show(rt, added(&mut other, &SMALLER))?;
+    show(rt, asked(&other, 1))
+}
+
+fn main(rt: LibcRuntime) -> io::Result<()> {
+    show(&rt, check_row(&[EMPTY; 1]).err())?;
+    of_order_3(&rt)?;
+    of_range(&rt)
 }
