@@ -16,12 +16,13 @@ pub record Meaning : Type 0 where
   pub Q : ℕ
   -- the unit roundoff u is 1/U
   pub U : ℕ
-  -- the limits of what a product or a lift may give, and of what a number may be
+  -- a product or a lift that is not zero is at least low in size
   pub low : ℕ
+  -- every number is at most high in size
   pub high : ℕ
   -- the rounding of the fraction n / d, for d above 0
   pub rounding : ℤ → ℕ → ℤ
-  -- what eight bytes are admitted as
+  -- what eight bytes are admitted as; the code hands over eight bytes, for any other list it is only defined
   pub admit : List ℕ → Admission
   -- the eight bytes that a number is written as
   pub pattern : ℤ → List ℕ

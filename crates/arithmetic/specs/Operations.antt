@@ -1,5 +1,5 @@
 -- The operations of an arithmetic, on multiples of 1/Q. `none` is a refusal.
--- They are shut: the definitions above use them by name, and only the lemmas of an arithmetic look inside.
+-- The rounded ones are `unfoldable`: what is built on them cites them by name, and only the lemmas of an arithmetic unfold them.
 use Prim.Native.Nat.{ℕ, _*_, _-_, _/_}
 use mathlib.Core.Bool.{Bool, cond, _&&_, _||_}
 use mathlib.Core.Option.{Option, none, some}

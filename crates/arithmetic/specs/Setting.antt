@@ -15,7 +15,7 @@ use Rattle.arithmetic.specs.declared.cause.Cause.{Cause}
 -- P is the type of the plain values: what a cell keeps of a number, without an invariant
 pub record Setting (P : Type 0) : Type 0 where
   pub meaning : Meaning
-  -- the number that a plain value reads as: 0 where it is none
+  -- the number that a plain value reads as; an arithmetic reads one that stands for none of its numbers as 0
   pub reads : P → ℤ
   -- the plain value of a number
   pub plain : ℤ → P

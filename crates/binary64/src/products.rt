@@ -1,4 +1,4 @@
-// Products, refused outside the limits unless a factor is zero. The range is tested first, since zero factors are rare.
+// Products, refused outside the limits unless a factor is zero. The range is tested first: only where it fails is a zero factor looked for.
 ghost use mathlib.Core.Path.{_≡_};
 ghost use Rattle.arithmetic.specs.Operations.{product as rounded-product, product-split};
 ghost use Rattle.arithmetic.specs.Setting.{valued, split-valued, Gives, Gives-both};

@@ -15,7 +15,7 @@ use Rattle.card.specs.Figures.{decimal, holding, asks, adds, marks, Binary64-f
 
 binary64-figures : Binary64-figures
 unfolding nearest exponent rounded rounding sum product lift grain product-error sum-split product-split least reach significand size admission unsigned written admitted pattern meaning new-cell row-after closed verdict step holding asks adds marks
-binary64-figures = record { no-zeros = refl; card = refl; minus-six = refl; smallest = refl; too-small = refl; too-large = refl }
+binary64-figures = record { no-zeros = refl; card = refl; minus-six = refl; above-zeros = refl; claim-right = refl; claim-wrong = refl; claim-open = refl; below-zero = refl; smallest = refl; too-small = refl; too-large = refl }
 
 decimal-figures : (admit : List ℕ → Admission) (written : ℤ → List ℕ) → Decimal-figures (decimal admit written)
 unfolding nearest exponent rounded rounding sum product lift grain product-error sum-split product-split new-cell row-after closed verdict step holding asks adds marks

@@ -52,15 +52,15 @@ whole m n = pos (n * m .Q)
 abbrev pub binary : ℕ → ℤ
 binary n = pos (2 ^ n)
 
--- n · 10^−e
-abbrev pub tenths : ℕ → ℕ → ℤ
-tenths n e = pos (n * 10 ^ (70 - e))
+-- n · 10^−e, for e at most 70
+abbrev pub places : ℕ → ℕ → ℤ
+places n e = pos (n * 10 ^ (70 - e))
 
 -- ---- the table
 pub record Binary64-figures : Type 0 where
   -- no zeros: order 0 is 1 with the bound 0
   pub no-zeros : asks meaning 3 [] 0 ≡ asked (whole meaning 1) (pos 0)
-  -- zeros 1, 2, 3: the coefficients 1, −6, 11, −6 with bounds 0; here as the calls of one card with a refused addition of 2^900, a
+  -- zeros 1, 2, 3: the coefficients 1, −6, 11, −6 with bounds 0; here as calls of one bench with a refused addition of 2^900, a
   -- refused asking and a clearing
   pub card : answers (bench-of meaning 3) (new-bench (bench-of meaning 3))
       (add (pattern (whole meaning 1)) ∷ add (pattern (whole meaning 2)) ∷ add (pattern (whole meaning 3)) ∷ ask 0 ∷ ask 1 ∷ ask 2 ∷ ask 3 ∷ add (pattern (binary 1974)) ∷ ask 4 ∷ clear ∷ [])
@@ -68,6 +68,13 @@ pub record Binary64-figures : Type 0 where
         refused 5 (3 ∷ 1 ∷ []) ∷ refused 6 [] ∷ cleared ∷ []
   -- the pattern of −6
   pub minus-six : pattern (negℤ (whole meaning 6)) ≡ 192 ∷ 24 ∷ 0 ∷ 0 ∷ 0 ∷ 0 ∷ 0 ∷ 0 ∷ []
+  -- two zeros: order 3 is above them, though the row has it
+  pub above-zeros : asks meaning 3 (whole meaning 1 ∷ whole meaning 2 ∷ []) 3 ≡ refused 7 []
+  -- the claim −6 of order 1 with the tolerance 0.5 is right, −5 is wrong, −6.5 is open; a tolerance of −1 is refused
+  pub claim-right : marks meaning 3 (whole meaning 1 ∷ whole meaning 2 ∷ whole meaning 3 ∷ []) 1 (negℤ (whole meaning 6)) (binary 1073) ≡ marked right
+  pub claim-wrong : marks meaning 3 (whole meaning 1 ∷ whole meaning 2 ∷ whole meaning 3 ∷ []) 1 (negℤ (whole meaning 5)) (binary 1073) ≡ marked wrong
+  pub claim-open : marks meaning 3 (whole meaning 1 ∷ whole meaning 2 ∷ whole meaning 3 ∷ []) 1 (negℤ (pos (13 * 2 ^ 1073))) (binary 1073) ≡ marked left-open
+  pub below-zero : marks meaning 3 (whole meaning 1 ∷ whole meaning 2 ∷ whole meaning 3 ∷ []) 1 (negℤ (whole meaning 6)) (negℤ (whole meaning 1)) ≡ refused 11 []
   -- 2^−450 twice: order 2 is 2^−900 with the bound 0
   pub smallest : asks meaning 2 (binary 624 ∷ binary 624 ∷ []) 2 ≡ asked (binary 174) (pos 0)
   -- the second 2^−460 is refused: the product is too small
@@ -84,16 +91,16 @@ pub record Decimal-figures (m : Meaning) : Type 0 where
   pub order-2 : asks m 3 (whole m 1 ∷ whole m 2 ∷ whole m 3 ∷ []) 2 ≡ asked (whole m 11) (pos 0)
   pub order-3 : asks m 3 (whole m 1 ∷ whole m 2 ∷ whole m 3 ∷ []) 3 ≡ asked (negℤ (whole m 6)) (pos 0)
   -- 1.0000001 twice: order 2 is 1.0000002 with the bound 1.0000002 · 10^−14
-  pub square : asks m 2 (tenths 10000001 7 ∷ tenths 10000001 7 ∷ []) 2 ≡ asked (tenths 10000002 7) (tenths 10000002 21)
+  pub square : asks m 2 (places 10000001 7 ∷ places 10000001 7 ∷ []) 2 ≡ asked (places 10000002 7) (places 10000002 21)
   -- then the claim 1.0000002 is open with the tolerance 0 and right with 2 · 10^−14; the claim 1.0000003 is wrong with 0
-  pub claim-open : marks m 2 (tenths 10000001 7 ∷ tenths 10000001 7 ∷ []) 2 (tenths 10000002 7) (pos 0) ≡ marked left-open
-  pub claim-right : marks m 2 (tenths 10000001 7 ∷ tenths 10000001 7 ∷ []) 2 (tenths 10000002 7) (tenths 2 14) ≡ marked right
-  pub claim-wrong : marks m 2 (tenths 10000001 7 ∷ tenths 10000001 7 ∷ []) 2 (tenths 10000003 7) (pos 0) ≡ marked wrong
+  pub claim-open : marks m 2 (places 10000001 7 ∷ places 10000001 7 ∷ []) 2 (places 10000002 7) (pos 0) ≡ marked left-open
+  pub claim-right : marks m 2 (places 10000001 7 ∷ places 10000001 7 ∷ []) 2 (places 10000002 7) (places 2 14) ≡ marked right
+  pub claim-wrong : marks m 2 (places 10000001 7 ∷ places 10000001 7 ∷ []) 2 (places 10000003 7) (pos 0) ≡ marked wrong
   -- zeros 10^10, 45, 45, −10^10, 1.2345678: order 1 is −91.234568 with the bound 3.6200045 · 10^−5
-  pub cancelled : asks m 5 (whole m (10 ^ 10) ∷ whole m 45 ∷ whole m 45 ∷ negℤ (whole m (10 ^ 10)) ∷ tenths 12345678 7 ∷ []) 1 ≡ asked (negℤ (tenths 91234568 6)) (tenths 36200045 12)
+  pub cancelled : asks m 5 (whole m (10 ^ 10) ∷ whole m 45 ∷ whole m 45 ∷ negℤ (whole m (10 ^ 10)) ∷ places 12345678 7 ∷ []) 1 ≡ asked (negℤ (places 91234568 6)) (places 36200045 12)
   -- 99999999 and 0.5 split to 10^8 and −0.5; 10000000 and 0.5 to 10000000 and 0.5
-  pub split-up : sum-split m (whole m 99999999) (tenths 5 1) ≡ some (record { main = whole m (10 ^ 8); error = negℤ (tenths 5 1) })
-  pub split-exact : sum-split m (whole m 10000000) (tenths 5 1) ≡ some (record { main = whole m 10000000; error = tenths 5 1 })
+  pub split-up : sum-split m (whole m 99999999) (places 5 1) ≡ some (record { main = whole m (10 ^ 8); error = negℤ (places 5 1) })
+  pub split-exact : sum-split m (whole m 10000000) (places 5 1) ≡ some (record { main = whole m 10000000; error = places 5 1 })
 
 pub record Figures : Type 0 where
   pub of-binary64 : Binary64-figures
