@@ -7,7 +7,7 @@ use native.Mathlib.Omega.{arith}
 use lib.Dec.{T, eqb, ltb, ltb→lt}
 use lib.IntN.{ℤ, pos}
 use lib.Signed.{leZ}
-use lib.ListN.{length, take, drop}
+use lib.ListN.{length, getD, take, drop}
 use Rattle.std.specs.Results.{isErr, ErrBy}
 use Rattle.std.specs.declared.result.Result.{Result}
 use Rattle.std.specs.declared.result.Result.the-variants.{Ok, Err}
@@ -17,7 +17,7 @@ use Rattle.coefficients.specs.Row.{Cell as Values, Trial, new-row}
 use Rattle.coefficients.specs.Closing.{Closed, close, Verdict as Defined, verdict}
 use Rattle.coefficients.specs.Calls.{Making, State, Call, Answer}
 use Rattle.row.specs.declared.cell.Cell.{Cell}
-use Rattle.row.specs.Reading.{plain-cell}
+use Rattle.row.specs.Reading.{plain-cell, Canonical}
 use Rattle.closing.specs.Closings.{Gives-numbers}
 use Rattle.closing.specs.declared.verdict.Verdict.{Verdict}
 use Rattle.bench.specs.Answers.{told-refusal, Issued-for, One-more}
@@ -70,11 +70,12 @@ keeps-long st b b′ h n l few out = record {
     long = l;
     standing = record { some-cells = omega (arith, h .some-cells, l); few-cells = omega (arith, h .few-cells, l); few-held = few; few-out = out } }
 
-pub leaves-all : {P : Type 0} (n : ℕ) (a : Bool) (old new : List (Cell P)) → new ≡ old → Addition-leaves n a old new
-leaves-all n a old new e = record { refused = λ _. e; first = ap (take 1) e; beyond = ap (drop (suc n)) e }
+pub leaves-all : {P : Type 0} (st : Setting P) (n : ℕ) (a : Bool) (old new : List (Cell P)) → a ≡ false → new ≡ old → Addition-leaves st n a old new
+leaves-all st n a old new f e = record { refused = λ _. e; first = ap (take 1) e; beyond = ap (drop (suc n)) e; written = λ z. not-false (sym z ∙ f) }
 
-pub leaves-others : {P : Type 0} (n n′ : ℕ) (old new : List (Cell P)) → n ≡ n′ → take 1 new ≡ take 1 old → drop (suc n) new ≡ drop (suc n) old → Addition-leaves n′ true old new
-leaves-others n n′ old new e f h = record { refused = λ z. not-false z; first = f; beyond = ap (λ n. drop (suc n) new) (sym e) ∙ h ∙ ap (λ n. drop (suc n) old) e }
+pub leaves-others : {P : Type 0} (st : Setting P) (n n′ : ℕ) (old new : List (Cell P)) → n ≡ n′ → take 1 new ≡ take 1 old → drop (suc n) new ≡ drop (suc n) old →
+    ((j : ℕ) → j < n → (d : Cell P) → Canonical st (getD new (suc j) d)) → Addition-leaves st n′ true old new
+leaves-others st n n′ old new e f h w = record { refused = λ z. not-false z; first = f; beyond = ap (λ n. drop (suc n) new) (sym e) ∙ h ∙ ap (λ n. drop (suc n) old) e; written = λ _ j l d. w j (subst (λ (n : ℕ). j < n) (sym e) l) d }
 
 pub clearing-refused : {P : Type 0} (st : Setting P) (old new : List (Cell P)) → new ≡ old → Clearing-leaves st false old new
 clearing-refused st old new e = record { refused = λ _. e; renewed = λ z. not-false (sym z) }

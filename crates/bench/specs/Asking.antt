@@ -20,7 +20,7 @@ by-answers in-row in-zeros = cond in-row (cond in-zeros (Ok tt) (Err OrderAboveZ
 abbrev pub order-outcome : ℕ → ℕ → ℕ → Result (Unit {0}) Refusal
 order-outcome K n k = by-answers (leb k K) (leb k n)
 
--- question 10 of a question with the given bench number
+-- question 10: the bench number is the same, and one is out
 abbrev pub question-out : ℕ → ℕ → ℕ → Bool
 question-out question bench out = eqb question bench && ltb 0 out
 

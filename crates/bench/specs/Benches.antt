@@ -2,13 +2,13 @@
 use mathlib.Core.Path.{_≡_}
 use mathlib.Core.Bool.{Bool, true, false}
 use mathlib.Core.List.{List, map}
-use Prim.Native.Nat.{ℕ, suc, _-_, _≤_}
-use lib.ListN.{length, take, drop}
+use Prim.Native.Nat.{ℕ, suc, _-_, _≤_, _<_}
+use lib.ListN.{length, getD, take, drop}
 use Rattle.arithmetic.specs.Setting.{Setting}
 use Rattle.coefficients.specs.Row.{new-row}
 use Rattle.coefficients.specs.Calls.{Making, State, Call, Answer, step}
 use Rattle.coefficients.specs.Law.{Call-law}
-use Rattle.row.specs.Reading.{readings, plain-cell}
+use Rattle.row.specs.Reading.{readings, plain-cell, Canonical}
 use Rattle.row.specs.declared.cell.Cell.{Cell}
 use Rattle.bench.specs.declared.Bench.{Bench}
 
@@ -44,11 +44,13 @@ pub record Keeps {A N P : Type 0} (st : Setting P) (b b′ : Bench A N P) : Type
   pub long : length (b′ .row .now) ≡ length (b .row .now)
   pub standing : Standing b′
 
--- the plain cells that an addition to the orders 1 to n leaves: all of them if it is refused, else cell 0 and those past n
-pub record Addition-leaves {P : Type 0} (n : ℕ) (accepted : Bool) (old new : List (Cell P)) : Type 0 where
+-- the plain cells after an addition to the orders 1 to n: all as they were if it is refused; cell 0 and those past n as they were; and
+-- those that it writes kept as the arithmetic writes what they read as
+pub record Addition-leaves {P : Type 0} (st : Setting P) (n : ℕ) (accepted : Bool) (old new : List (Cell P)) : Type 0 where
   pub refused : accepted ≡ false → new ≡ old
   pub first : take 1 new ≡ take 1 old
   pub beyond : drop (suc n) new ≡ drop (suc n) old
+  pub written : accepted ≡ true → (j : ℕ) → j < n → (d : Cell P) → Canonical st (getD new (suc j) d)
 
 -- the plain cells after a clearing: all as they were if it is refused, else those of a new row
 pub record Clearing-leaves {P : Type 0} (st : Setting P) (accepted : Bool) (old new : List (Cell P)) : Type 0 where

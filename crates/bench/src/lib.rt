@@ -94,7 +94,7 @@ impl<'r, A: Arithmetic> Bench<'r, A> {
         requires law { ⌜ A·Arithmetic .lawful (now arith) ⌝ }
         requires standing { ⌜ Standing (now self) ⌝ }
         ensures called { λ r. ⌜ Answers-call (A·Arithmetic .setting (now (arith .entry))) (now (self .entry)) (now (self .exit)) (add-call (now (bytes .entry))) (told-added r) ⌝ }
-        ensures cells { λ r. ⌜ Addition-leaves (min (suc (now (self .entry) .held)) (length (now (now (self .entry) .row)) - 1)) (accepted (told-added r)) (now (now (self .entry) .row)) (now (now (self .exit) .row)) ⌝ }
+        ensures cells { λ r. ⌜ Addition-leaves (A·Arithmetic .setting (now (arith .entry))) (min (suc (now (self .entry) .held)) (length (now (now (self .entry) .row)) - 1)) (accepted (told-added r)) (now (now (self .entry) .row)) (now (now (self .exit) .row)) ⌝ }
         ensures keeps { λ _. ⌜ Keeps (A·Arithmetic .setting (now (arith .entry))) (now (self .entry)) (now (self .exit)) ⌝ }
         ensures counts { λ _. ⌜ now (self .exit) .out ≡ now (self .entry) .out ⌝ }
         ensures lender { λ _. ⌜ name (now (self .exit) .row) ≡ name (now (self .entry) .row) ⌝ }
@@ -111,7 +111,7 @@ impl<'r, A: Arithmetic> Bench<'r, A> {
         requires standing { ⌜ Standing (now self) ⌝ }
         requires next { ⌜ number ≡ suc (now self .held) ⌝ }
         ensures called { λ r. ⌜ Answers-call (A·Arithmetic .setting (now (arith .entry))) (now (self .entry)) (now (self .exit)) (add-call (now (bytes .entry))) (told-added r) ⌝ }
-        ensures cells { λ r. ⌜ Addition-leaves (min (suc (now (self .entry) .held)) (length (now (now (self .entry) .row)) - 1)) (accepted (told-added r)) (now (now (self .entry) .row)) (now (now (self .exit) .row)) ⌝ }
+        ensures cells { λ r. ⌜ Addition-leaves (A·Arithmetic .setting (now (arith .entry))) (min (suc (now (self .entry) .held)) (length (now (now (self .entry) .row)) - 1)) (accepted (told-added r)) (now (now (self .entry) .row)) (now (now (self .exit) .row)) ⌝ }
         ensures keeps { λ _. ⌜ Keeps (A·Arithmetic .setting (now (arith .entry))) (now (self .entry)) (now (self .exit)) ⌝ }
         ensures counts { λ _. ⌜ now (self .exit) .out ≡ now (self .entry) .out ⌝ }
         ensures lender { λ _. ⌜ name (now (self .exit) .row) ≡ name (now (self .entry) .row) ⌝ }

@@ -70,12 +70,12 @@ module _ {P : Type 0} (x : ℤ) (n : ℕ) where
   pub added-none : (st : Setting P) (y : Cell P) (row last : List (Cell P)) (r : Result (Unit {0}) OutOfRange) → n < length row → y ≡ getD row 0 y → last ≡ tail row → isOk r ≡ false → r ≡ row-outcome st y (tail row) → Added st x n r row (with-tail row last)
   added-none st y row last r h f e s a = let k : with-tail row last ≡ row = kept-row row last (omega arith) e in record {
       defined = refused-as _ r _ s (a ∙ ap (λ l. outcome (row-after (st .meaning) x (readings st l) n)) (whole y row (omega arith) f));
-      refused = λ _. k; first = ap (take 1) k; beyond = ap (drop (suc n)) k; long = ap length k }
+      plain = λ o. true-false o s; refused = λ _. k; first = ap (take 1) k; beyond = ap (drop (suc n)) k; long = ap length k }
 
   added-cons : (st : Setting P) (y : Cell P) (xs last : List (Cell P)) (r : Result (Unit {0}) OutOfRange) → r ≡ row-outcome st y xs → Passed st x y n true xs last → Added st x n r (y ∷ xs) (y ∷ last)
   added-cons st y xs last r e p =
       let z : r ≡ Ok tt = e ∙ ap outcome (sym (p .wrote refl)) in
-      record { defined = ap (λ o. update o (readings st (y ∷ last))) z ∙ p .wrote refl; refused = λ s. absurd (not-ok r s z); first = refl; beyond = p .beyond; long = ap suc (p .long) }
+      record { defined = ap (λ o. update o (readings st (y ∷ last))) z ∙ p .wrote refl; plain = λ _ j b d. p .plain refl j b d; refused = λ s. absurd (not-ok r s z); first = refl; beyond = p .beyond; long = ap suc (p .long) }
 
   added-same : (st : Setting P) (y : Cell P) (row last : List (Cell P)) (r : Result (Unit {0}) OutOfRange) → n < length row → y ≡ getD row 0 y → r ≡ row-outcome st y (tail row) → Passed st x y n true (tail row) last → Added st x n r row (with-tail row last)
   added-same st y [] last r h f e p = absurd (omega arith)

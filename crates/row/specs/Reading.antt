@@ -1,4 +1,5 @@
 -- What the plain cells of a row read as through the setting of an arithmetic.
+use mathlib.Core.Path.{_≡_}
 use mathlib.Core.List.{List, map}
 use lib.IntN.{ℤ}
 use Rattle.arithmetic.specs.Meaning.{Meaning, Number}
@@ -16,6 +17,10 @@ readings st row = map (reading st) row
 -- the plain cell that is written for three values
 abbrev pub plain-cell : {P : Type 0} → Setting P → Values → Cell P
 plain-cell st v = record { sum = st .plain (v .S); correction = st .plain (v .C); errors = st .plain (v .E) }
+
+-- a cell is kept as the arithmetic writes what it reads as
+abbrev pub Canonical : {P : Type 0} → Setting P → Cell P → Type 0
+Canonical st c = c ≡ plain-cell st (reading st c)
 
 -- the values of three numbers
 abbrev pub values : {N : Type 0} → (N → ℤ) → Numbers N → Values

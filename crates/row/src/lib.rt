@@ -9,7 +9,7 @@ ghost use Rattle.std.specs.declared.result.Result.the-variants.{Ok};
 ghost use Rattle.arithmetic.specs.Meaning.{Number as IsNumber};
 ghost use Rattle.coefficients.specs.Row.{new-cell, row-after};
 ghost use Rattle.row.specs.Reading.{reading, readings, values, Are-numbers};
-ghost use Rattle.row.specs.Passing.{tried, outcome, Passed, Added, Renewed};
+ghost use Rattle.row.specs.Passing.{tried, Writes-plain, outcome, Passed, Added, Renewed};
 use arithmetic::Arithmetic;
 use cell::Cell;
 use cell::Numbers;
@@ -33,6 +33,7 @@ fn update<A: Arithmetic>(arith: &mut A, x: A::Number, old: Numbers<A::Number>, b
     requires old { ⌜ Are-numbers (A·Arithmetic .setting (now arith) .meaning) (A·Arithmetic .value) old ⌝ }
     requires before { ⌜ Are-numbers (A·Arithmetic .setting (now arith) .meaning) (A·Arithmetic .value) before ⌝ }
     ensures answer { λ r. ⌜ tried (A·Arithmetic .setting (now (arith .entry))) r ≡ new-cell (A·Arithmetic .setting (now (arith .entry)) .meaning) (A·Arithmetic .value x) (values (A·Arithmetic .value) old) (values (A·Arithmetic .value) before) ⌝ }
+    ensures plain { λ r. ⌜ Writes-plain (A·Arithmetic .setting (now (arith .entry))) r ⌝ }
     ensures same { λ _. ⌜ A·Arithmetic .setting (now (arith .exit)) ≡ A·Arithmetic .setting (now (arith .entry)) ⌝ }
     ensures law { λ _. ⌜ A·Arithmetic .lawful (now (arith .exit)) ⌝ }
 {

@@ -1,6 +1,8 @@
 -- The operations come in the order of the definition of a new cell, and the first that leaves its range gives the answer.
+use mathlib.Core.Path.{_≡_}
 use borrow.Author.Needs.{needs}
 use Rattle.coefficients.specs.Row.{new-cell}
+use Rattle.row.proofs.Passes.{canonical-by}
 use Rattle.row.proofs.update.Needs as need
 
 pub returns-in-rest : need.returns-in-rest
@@ -41,4 +43,7 @@ returns-in-rest-sum-5 g c = search needs
 
 pub returns : need.returns
 unfolding new-cell
-returns g c = search needs
+returns g c =
+    let st = g .A·Arithmetic .setting in
+    let same : st (c .sum-5 .last .self) ≡ st (c .args .arith .now) = search needs in
+    record { answer = search needs; plain = canonical-by (st (c .args .arith .now)) (st (c .sum-5 .last .self)) _ _ _ _ _ _ (c .plain .ensures .answer) (c .plain .ensures .back) (c .plain-2 .ensures .answer) (c .plain-2 .ensures .back) (c .plain-3 .ensures .answer) (c .plain-3 .ensures .back) same; same = same; law = search needs }
