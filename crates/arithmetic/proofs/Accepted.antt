@@ -20,6 +20,7 @@ use Rattle.arithmetic.proofs.Near.{Near, near-without}
 module _ (m : Meaning) (R : Rules m) where
   abbrev Q : ℕ
   Q = m .Q
+
   abbrev U : ℕ
   U = m .U
 
@@ -54,8 +55,10 @@ module _ (m : Meaning) (R : Rules m) where
     where
       t : T (eqb (natAbs exact) 0 || (leb (m .low) (natAbs (m .rounding n d)) && leb (natAbs (m .rounding n d)) (m .high))) × (m .rounding n d ≡ r)
       t = some-from _ _ _ e
+
       none-left : T (eqb (natAbs exact) 0) → natAbs (m .rounding n d) ≤ m .high
       none-left k = rw (z (eqb→eq _ _ k), rounding-zero d h) (zero-is-number .bounded)
+
       fits : T (leb (m .low) (natAbs (m .rounding n d)) && leb (natAbs (m .rounding n d)) (m .high)) → natAbs (m .rounding n d) ≤ m .high
       fits k = leb→le _ _ (both (leb (m .low) (natAbs (m .rounding n d))) (leb (natAbs (m .rounding n d)) (m .high)) k .1)
 
@@ -87,6 +90,7 @@ module _ (m : Meaning) (R : Rules m) where
     where
       c : Close m (a *ℤ b) (m .Q * m .Q) r
       c = R .product-close a b r ha hb e
+
       two : (r *ℤ pos Q) *ℤ pos Q ≡ r *ℤ pos (Q * Q)
       two = times-times r Q Q
 
@@ -96,6 +100,7 @@ module _ (m : Meaning) (R : Rules m) where
     where
       c : Close m (a *ℤ pos (m .U)) (m .Q * (m .U - k)) r
       c = R .lift-close a r k h ha e
+
       two : (r *ℤ pos (U - k)) *ℤ pos Q ≡ r *ℤ pos (Q * (U - k))
       two = times-times r (U - k) Q ∙ ap (λ n. r *ℤ pos n) (mul-comm (U - k) Q)
 

@@ -17,13 +17,15 @@ times r e q = ap natAbs (ring (at r ⊗ num q ⊕ (⊖ (at e ⊗ num q))) ((at r
 
 pub near-times : (U : ℕ) (r e : ℤ) (q : ℕ) → Near U r e → Near U (r *ℤ pos q) (e *ℤ pos q)
 near-times U r e q h = record {
-    by-exact = omega (arith, ap (λ x. U * x) (times r e q), abs-mul e (pos q), mul-le-mul-right q (h .by-exact));
-    by-rounded = omega (arith, ap (λ x. U * x) (times r e q), abs-mul r (pos q), mul-le-mul-right q (h .by-rounded)) }
+  by-exact = omega (arith, ap (λ x. U * x) (times r e q), abs-mul e (pos q), mul-le-mul-right q (h .by-exact));
+  by-rounded = omega (arith, ap (λ x. U * x) (times r e q), abs-mul r (pos q), mul-le-mul-right q (h .by-rounded));
+}
 
 pub near-without : (U : ℕ) (r e : ℤ) (q : ℕ) → 0 < q → Near U (r *ℤ pos q) (e *ℤ pos q) → Near U r e
 near-without U r e q k h = record {
-    by-exact = le-of-mul-le-mul-right {k = q} (omega (arith, ap (λ x. U * x) (times r e q), abs-mul e (pos q), h .by-exact)) k;
-    by-rounded = le-of-mul-le-mul-right {k = q} (omega (arith, ap (λ x. U * x) (times r e q), abs-mul r (pos q), h .by-rounded)) k }
+  by-exact = le-of-mul-le-mul-right {k = q} (omega (arith, ap (λ x. U * x) (times r e q), abs-mul e (pos q), h .by-exact)) k;
+  by-rounded = le-of-mul-le-mul-right {k = q} (omega (arith, ap (λ x. U * x) (times r e q), abs-mul r (pos q), h .by-rounded)) k;
+}
 
 -- what is near a natural number is one
 pub record Natural (U : ℕ) (r : ℤ) (e : ℕ) : Type 0 where
@@ -36,6 +38,7 @@ near-natural U (pos n) e h k = record { is = refl; exact-below = omega (arith, k
   where
     d : e ≤ n + natAbs (pos n -ℤ pos e)
     d = omega (arith, ints)
+
     d′ : n ≤ e + natAbs (pos n -ℤ pos e)
     d′ = omega (arith, ints)
 near-natural U (negsuc n) e h k = absurd (omega (arith, k .by-exact, mul-le-mul-left U d, mul-le-mul-right (e + suc n) h))

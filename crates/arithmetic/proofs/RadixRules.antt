@@ -49,10 +49,13 @@ pub record Lawful (B p q low high : ℕ) : Type 0 where
 module _ (B p q low high : ℕ) (admit : List ℕ → Admission) (pattern : ℤ → List ℕ) (L : Lawful B p q low high) where
   abbrev m : Meaning
   m = radix B p q low high admit pattern
+
   abbrev Q : ℕ
   Q = B ^ q
+
   abbrev U : ℕ
   U = 2 * B ^ (p - 1)
+
   abbrev N : ℤ → ℕ → ℤ
   N = rounding B p Q
 
@@ -101,8 +104,10 @@ module _ (B p q low high : ℕ) (admit : List ℕ → Admission) (pattern : ℤ 
         where
           off : natAbs (pos 0 *ℤ pos d -ℤ pos 0 *ℤ pos Q) ≡ 0
           off = omega (arith, ints)
+
           none : (x : ℤ) → natAbs x ≡ 0 → x ≡ pos 0
           none x k = omega (arith, ints)
+
       within : T (leb low (natAbs (N n d)) && leb (natAbs (N n d)) high) → Accepted n d (N n d)
       within k = let w = both (leb low (natAbs (N n d))) _ k in let c = law .fraction-close n d h (large _ (leb→le _ _ (w .0))) in
           record { is = refl; bounded = leb→le _ _ (w .1); close = record { by-exact = c .by-exact; by-rounded = c .by-rounded }; lies = inr (leb→le _ _ (w .0)) }
@@ -144,6 +149,7 @@ module _ (B p q low high : ℕ) (admit : List ℕ → Admission) (pattern : ℤ 
       where
         nothing : (a *ℤ b ≡ pos 0) × (r ≡ pos 0) → Product-part B p Q a b r
         nothing z = record { e = pos 0; is-number = law .what-stays (pos 0) (zero-rounded Q some-Q); exact = rw (z .0, z .1) (omega (arith, ints)) }
+
         within : low ≤ natAbs r → Product-part B p Q a b r
         within k = rw (product-is .is) at (law .product-part q refl a b (has-digits a ha) (has-digits b hb) (rw (product-is .is) (le-trans (L .low-above) k)))
 
@@ -184,12 +190,30 @@ module _ (B p q low high : ℕ) (admit : List ℕ → Admission) (pattern : ℤ 
     where
       few : k * L .half < B ^ p
       few = lt-of-le-of-lt (mul-le-mul-right (L .half) h) (L .grains)
+
       small : units k ≤ Q
       small = le-of-mul-le-mul-right {k = U} (omega (arith, grain-shape k, mul-le-mul-right Q h, mul-le-mul-right Q (L .fine))) (omega arith)
 
   pub radix-rules : ((bytes : List ℕ) (a : ℤ) → admit bytes ≡ number a → Number m a) → ((a : ℤ) → Number m a → admit (pattern a) ≡ number a) → ((a : ℤ) → length (pattern a) ≡ 8) → Rules m
   radix-rules admitted written eight = record {
-      some-scale = some-Q; fine = L .fine; low-above-zero = omega (arith, large low (le-refl low)); low-at-most-one = L .low-one; one-at-most-high = L .high-one;
-      one-for-each = law .alike; twice-is-once = law .twice; sum-close = sum-close; product-close = λ a b r ha hb e. product-is a b r ha hb e .close; lift-close = lift-close;
-      one-is-number = one-is-number; sum-error-is-number = sum-error-is-number; product-error-is-exact = product-error-is-exact; product-error-is-number = product-error-is-number;
-      grain-is-exact = grain-is-exact; grain-is-number = grain-is-number; negative-is-number = negative-is-number; admitted-is-number = admitted; pattern-is-admitted = written; pattern-is-eight = eight }
+    some-scale = some-Q;
+    fine = L .fine;
+    low-above-zero = omega (arith, large low (le-refl low));
+    low-at-most-one = L .low-one;
+    one-at-most-high = L .high-one;
+    one-for-each = law .alike;
+    twice-is-once = law .twice;
+    sum-close = sum-close;
+    product-close = λ a b r ha hb e. product-is a b r ha hb e .close;
+    lift-close = lift-close;
+    one-is-number = one-is-number;
+    sum-error-is-number = sum-error-is-number;
+    product-error-is-exact = product-error-is-exact;
+    product-error-is-number = product-error-is-number;
+    grain-is-exact = grain-is-exact;
+    grain-is-number = grain-is-number;
+    negative-is-number = negative-is-number;
+    admitted-is-number = admitted;
+    pattern-is-admitted = written;
+    pattern-is-eight = eight;
+  }

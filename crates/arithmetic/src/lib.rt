@@ -41,14 +41,22 @@ pub trait Arithmetic: Sized {
         ensures { λ r. ⌜ Rounds setting lawful value (now (self .entry)) (now (self .exit)) r (rounded-product (setting (now (self .entry)) .meaning) (value a) (value b)) ⌝ };
 
     // The rounded sum and its error part.
-    fn split_sum(&mut self, a: Self::Number, b: Self::Number) -> Option<(Self::Number, Self::Number)>
+    fn split_sum(
+        &mut self,
+        a: Self::Number,
+        b: Self::Number,
+    ) -> Option<(Self::Number, Self::Number)>
         requires law { ⌜ lawful (now self) ⌝ }
         requires left { ⌜ IsNumber (setting (now self) .meaning) (value a) ⌝ }
         requires right { ⌜ IsNumber (setting (now self) .meaning) (value b) ⌝ }
         ensures { λ r. ⌜ Splits setting lawful value (now (self .entry)) (now (self .exit)) r (sum-split (setting (now (self .entry)) .meaning) (value a) (value b)) ⌝ };
 
     // The rounded product and its error part.
-    fn split_product(&mut self, a: Self::Number, b: Self::Number) -> Option<(Self::Number, Self::Number)>
+    fn split_product(
+        &mut self,
+        a: Self::Number,
+        b: Self::Number,
+    ) -> Option<(Self::Number, Self::Number)>
         requires law { ⌜ lawful (now self) ⌝ }
         requires left { ⌜ IsNumber (setting (now self) .meaning) (value a) ⌝ }
         requires right { ⌜ IsNumber (setting (now self) .meaning) (value b) ⌝ }

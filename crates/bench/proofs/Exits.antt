@@ -65,10 +65,11 @@ keeps-all st b h = record { making = refl; number = refl; long = refl; standing 
 -- a call that changes cells and counts
 pub keeps-long : {A N P : Type 0} (st : Setting P) (b b′ : Bench A N P) → Standing b → b′ .number ≡ b .number → length (b′ .row .now) ≡ length (b .row .now) → b′ .held ≤ 64 → b′ .out ≤ 32 → Keeps st b b′
 keeps-long st b b′ h n l few out = record {
-    making = ap (λ n. record { meaning = st .meaning; bench-number = n; K = length (b′ .row .now) - 1 }) n ∙ ap (λ l. record { meaning = st .meaning; bench-number = b .number; K = l - 1 }) l;
-    number = n;
-    long = l;
-    standing = record { some-cells = omega (arith, h .some-cells, l); few-cells = omega (arith, h .few-cells, l); few-held = few; few-out = out } }
+  making = ap (λ n. record { meaning = st .meaning; bench-number = n; K = length (b′ .row .now) - 1 }) n ∙ ap (λ l. record { meaning = st .meaning; bench-number = b .number; K = l - 1 }) l;
+  number = n;
+  long = l;
+  standing = record { some-cells = omega (arith, h .some-cells, l); few-cells = omega (arith, h .few-cells, l); few-held = few; few-out = out };
+}
 
 pub leaves-all : {P : Type 0} (st : Setting P) (n : ℕ) (a : Bool) (old new : List (Cell P)) → a ≡ false → new ≡ old → Addition-leaves st n a old new
 leaves-all st n a old new f e = record { refused = λ _. e; first = ap (take 1) e; beyond = ap (drop (suc n)) e; written = λ z. not-false (sym z ∙ f) }

@@ -1,8 +1,8 @@
-// A bench over a lent row of cells: whether a row will do, making, adding, clearing, asking. Generic over the arithmetic, which
-// is handed to each call.
+// A bench over a lent row of cells: whether a row will do, making, and its six calls, adding, clearing, asking, issuing, marking and
+// withdrawing. Generic over the arithmetic, which is handed to each call.
 ghost use mathlib.Core.Path.{_≡_};
 ghost use mathlib.Core.List.{map};
-ghost use Prim.Native.Nat.{suc, _+_, _-_, _<_, _≤_, min};
+ghost use Prim.Native.Nat.{suc, _-_, _<_, _≤_, min};
 ghost use lib.Dec.{eqb};
 ghost use lib.ListN.{length, getD};
 ghost use denote.Ref.{name};
@@ -86,7 +86,12 @@ impl<'r, A: Arithmetic> Bench<'r, A> {
         ensures book { λ _. ⌜ Book-law ⌝ }
     {
         renew(arith, row);
-        Bench { row, number, held: 0, out: 0 }
+        Bench {
+            row,
+            number,
+            held: 0,
+            out: 0,
+        }
     }
 
     // Adds a zero, given by its eight bytes, and answers its number. Refusals: 17, 2, 3, 4, 5.
@@ -148,7 +153,7 @@ impl<'r, A: Arithmetic> Bench<'r, A> {
         self.clear_if(arith, free)
     }
 
-    // Clears a bench of which no question is out.
+    // Clears the bench if it is free: no question is out.
     fn clear_if(&mut self, arith: &A, free: bool) -> Result<(), Refusal>
         requires law { ⌜ A·Arithmetic .lawful (now arith) ⌝ }
         requires standing { ⌜ Standing (now self) ⌝ }
@@ -250,12 +255,21 @@ impl<'r, A: Arithmetic> Bench<'r, A> {
             return Err(Refusal::TooManyOut);
         }
         self.out += 1;
-        Ok(Question { bench: self.number, order: k })
+        Ok(Question {
+            bench: self.number,
+            order: k,
+        })
     }
 
     // Marks a question with a claim and a tolerance, given by their eight bytes. Refusals: 17, 10, 6, 7, 11, 8, 12; each gives the
     // question back.
-    pub fn mark(&mut self, arith: &mut A, question: Question, claim: &[u8; 8], tolerance: &[u8; 8]) -> Result<Verdict, GivenBack>
+    pub fn mark(
+        &mut self,
+        arith: &mut A,
+        question: Question,
+        claim: &[u8; 8],
+        tolerance: &[u8; 8],
+    ) -> Result<Verdict, GivenBack>
         requires law { ⌜ A·Arithmetic .lawful (now arith) ⌝ }
         requires standing { ⌜ Standing (now self) ⌝ }
         ensures called { λ r. ⌜ Answers-call (A·Arithmetic .setting (now (arith .entry))) (now (self .entry)) (now (self .exit)) (mark-call (question .bench) (question .order) (now (claim .entry)) (now (tolerance .entry))) (told-marked r) ⌝ }
@@ -271,7 +285,13 @@ impl<'r, A: Arithmetic> Bench<'r, A> {
     }
 
     // Marks a question: spends it where the claim is judged, gives it back where the marking is refused.
-    fn mark_admitted(&mut self, arith: &mut A, question: Question, claim: &[u8; 8], tolerance: &[u8; 8]) -> Result<Verdict, GivenBack>
+    fn mark_admitted(
+        &mut self,
+        arith: &mut A,
+        question: Question,
+        claim: &[u8; 8],
+        tolerance: &[u8; 8],
+    ) -> Result<Verdict, GivenBack>
         requires law { ⌜ A·Arithmetic .lawful (now arith) ⌝ }
         requires standing { ⌜ Standing (now self) ⌝ }
         ensures called { λ r. ⌜ Answers-call (A·Arithmetic .setting (now (arith .entry))) (now (self .entry)) (now (self .exit)) (mark-call (question .bench) (question .order) (now (claim .entry)) (now (tolerance .entry))) (told-marked r) ⌝ }
@@ -293,8 +313,14 @@ impl<'r, A: Arithmetic> Bench<'r, A> {
         }
     }
 
-    // The verdict on a claim given by its eight bytes, as are the tolerances.
-    fn judge_claim(&self, arith: &mut A, question: &Question, claim: &[u8; 8], tolerance: &[u8; 8]) -> Result<Verdict, Refusal>
+    // The verdict on a claim; the claim and the tolerance are given by their eight bytes.
+    fn judge_claim(
+        &self,
+        arith: &mut A,
+        question: &Question,
+        claim: &[u8; 8],
+        tolerance: &[u8; 8],
+    ) -> Result<Verdict, Refusal>
         requires law { ⌜ A·Arithmetic .lawful (now arith) ⌝ }
         requires standing { ⌜ Standing (now self) ⌝ }
         ensures step { λ r. ⌜ marking-step (state-of (A·Arithmetic .setting (now (arith .entry))) (now (self .entry))) r ≡ step (making-of (A·Arithmetic .setting (now (arith .entry))) (now (self .entry))) (state-of (A·Arithmetic .setting (now (arith .entry))) (now (self .entry))) (mark-call (now (question .entry) .bench) (now (question .entry) .order) (now (claim .entry)) (now (tolerance .entry))) ⌝ }
@@ -307,8 +333,14 @@ impl<'r, A: Arithmetic> Bench<'r, A> {
         self.judge_numbers(arith, question, claimed, allowed)
     }
 
-    // The verdict on a claim, as numbers.
-    fn judge_numbers(&self, arith: &mut A, question: &Question, claim: A::Number, tolerance: A::Number) -> Result<Verdict, Refusal>
+    // The verdict on a claim; the claim and the tolerance are numbers. Questions 10, 6, 7, 11, 8, 12.
+    fn judge_numbers(
+        &self,
+        arith: &mut A,
+        question: &Question,
+        claim: A::Number,
+        tolerance: A::Number,
+    ) -> Result<Verdict, Refusal>
         requires law { ⌜ A·Arithmetic .lawful (now arith) ⌝ }
         requires standing { ⌜ Standing (now self) ⌝ }
         requires claim { ⌜ IsNumber (A·Arithmetic .setting (now arith) .meaning) (A·Arithmetic .value claim) ⌝ }
@@ -354,7 +386,7 @@ impl<'r, A: Arithmetic> Bench<'r, A> {
         self.withdraw_if(arith, question, out)
     }
 
-    // Withdraws a question that is out.
+    // Withdraws a question if it is out.
     fn withdraw_if(&mut self, arith: &A, question: Question, out: bool) -> Result<(), GivenBack>
         requires law { ⌜ A·Arithmetic .lawful (now arith) ⌝ }
         requires standing { ⌜ Standing (now self) ⌝ }
@@ -368,7 +400,10 @@ impl<'r, A: Arithmetic> Bench<'r, A> {
         ensures counts { λ r. ⌜ One-less r (now (self .entry) .out) (now (self .exit) .out) ⌝ }
     {
         if !out {
-            return Err(GivenBack { question, refusal: Refusal::NotOut });
+            return Err(GivenBack {
+                question,
+                refusal: Refusal::NotOut,
+            });
         }
         let _ = question.spend();
         self.out -= 1;

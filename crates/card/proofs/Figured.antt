@@ -20,8 +20,19 @@ binary64-figures = record { no-zeros = refl; card = refl; minus-six = refl; abov
 decimal-figures : (admit : List ℕ → Admission) (written : ℤ → List ℕ) → Decimal-figures (decimal admit written)
 unfolding nearest exponent rounded rounding sum product lift grain product-error sum-split product-split new-cell row-after closed verdict step holding asks adds marks
 decimal-figures admit written = record {
-    no-zeros = refl; order-0 = refl; order-1 = refl; order-2 = refl; order-3 = refl; square = refl; claim-open = refl; claim-right = refl; claim-wrong = refl;
-    cancelled = refl; split-up = refl; split-exact = refl }
+  no-zeros = refl;
+  order-0 = refl;
+  order-1 = refl;
+  order-2 = refl;
+  order-3 = refl;
+  square = refl;
+  claim-open = refl;
+  claim-right = refl;
+  claim-wrong = refl;
+  cancelled = refl;
+  split-up = refl;
+  split-exact = refl;
+}
 
 pub figures : Figures
 figures = record { of-binary64 = binary64-figures; of-decimal = decimal-figures }

@@ -65,7 +65,7 @@ pub record Binary64-figures : Type 0 where
   pub card : answers (bench-of meaning 3) (new-bench (bench-of meaning 3))
       (add (pattern (whole meaning 1)) ∷ add (pattern (whole meaning 2)) ∷ add (pattern (whole meaning 3)) ∷ ask 0 ∷ ask 1 ∷ ask 2 ∷ ask 3 ∷ add (pattern (binary 1974)) ∷ ask 4 ∷ clear ∷ [])
       ≡ added 1 ∷ added 2 ∷ added 3 ∷ asked (whole meaning 1) (pos 0) ∷ asked (negℤ (whole meaning 6)) (pos 0) ∷ asked (whole meaning 11) (pos 0) ∷ asked (negℤ (whole meaning 6)) (pos 0) ∷
-        refused 5 (3 ∷ 1 ∷ []) ∷ refused 6 [] ∷ cleared ∷ []
+      refused 5 (3 ∷ 1 ∷ []) ∷ refused 6 [] ∷ cleared ∷ []
   -- the pattern of −6
   pub minus-six : pattern (negℤ (whole meaning 6)) ≡ 192 ∷ 24 ∷ 0 ∷ 0 ∷ 0 ∷ 0 ∷ 0 ∷ 0 ∷ []
   -- two zeros: order 3 is above them, though the row has it

@@ -9,9 +9,16 @@ pub enum Line {
     // the number of the zero that was added
     Zero(u8),
     // an order, and the eight bytes of its value and of its bound
-    Coefficient { order: u8, value: [u8; 8], bound: [u8; 8] },
+    Coefficient {
+        order: u8,
+        value: [u8; 8],
+        bound: [u8; 8],
+    },
     // an order, and the verdict on a claim
-    Marked { order: u8, verdict: Verdict },
+    Marked {
+        order: u8,
+        verdict: Verdict,
+    },
     Cleared,
     Refused(Refusal),
 }
@@ -37,7 +44,11 @@ pub impl fmt::Display for Line as LineDisplay {
     fn fmt<W: fmt::Write>(&self, f: &mut fmt::Formatter<W>) -> fmt::Result {
         match self {
             Line::Zero(number) => write!(f, "Z {number}"),
-            Line::Coefficient { order, value, bound } => {
+            Line::Coefficient {
+                order,
+                value,
+                bound,
+            } => {
                 write!(f, "K {order} ")?;
                 show_pattern(value, f)?;
                 write!(f, " ")?;

@@ -23,13 +23,21 @@ mod lines;
 
 // The zeros of the card, claims and tolerances, and the largest number, 2^900, as patterns.
 const ONE: [u8; 8] = [0x3F, 0xF0, 0, 0, 0, 0, 0, 0];
+
 const TWO: [u8; 8] = [0x40, 0x00, 0, 0, 0, 0, 0, 0];
+
 const THREE: [u8; 8] = [0x40, 0x08, 0, 0, 0, 0, 0, 0];
+
 const HALF: [u8; 8] = [0x3F, 0xE0, 0, 0, 0, 0, 0, 0];
+
 const MINUS_ONE: [u8; 8] = [0xBF, 0xF0, 0, 0, 0, 0, 0, 0];
+
 const MINUS_FIVE: [u8; 8] = [0xC0, 0x14, 0, 0, 0, 0, 0, 0];
+
 const MINUS_SIX: [u8; 8] = [0xC0, 0x18, 0, 0, 0, 0, 0, 0];
+
 const MINUS_SIX_AND_A_HALF: [u8; 8] = [0xC0, 0x1A, 0, 0, 0, 0, 0, 0];
+
 const LARGEST: [u8; 8] = [0x78, 0x30, 0, 0, 0, 0, 0, 0];
 
 // Adds a zero.
@@ -52,7 +60,11 @@ fn ask(bench: &Bench<Binary64>, order: u8) -> Line
     match bench.ask(&mut arith, order) {
         Ok(coefficient) => {
             let (value, bound) = coefficient;
-            Line::Coefficient { order, value: arith.pattern(value), bound: arith.pattern(bound) }
+            Line::Coefficient {
+                order,
+                value: arith.pattern(value),
+                bound: arith.pattern(bound),
+            }
         }
         Err(refusal) => Line::Refused(refusal),
     }
@@ -72,7 +84,13 @@ fn withdraw(bench: &mut Bench<Binary64>, question: Question)
 }
 
 // Marks a claim by a question of this bench; where the marking is refused, the question is withdrawn.
-fn settle(bench: &mut Bench<Binary64>, question: Question, order: u8, claim: &[u8; 8], tolerance: &[u8; 8]) -> Line
+fn settle(
+    bench: &mut Bench<Binary64>,
+    question: Question,
+    order: u8,
+    claim: &[u8; 8],
+    tolerance: &[u8; 8],
+) -> Line
     requires { ⌜ Standing (now bench) ⌝ }
     requires { ⌜ question .bench ≡ now bench .number ⌝ }
     requires { ⌜ 0 < now bench .out ⌝ }
@@ -101,7 +119,13 @@ fn examine(bench: &mut Bench<Binary64>, order: u8, claim: &[u8; 8], tolerance: &
 }
 
 // Marks two claims, each by a question of its own.
-fn examine_two(bench: &mut Bench<Binary64>, order: u8, first: &[u8; 8], second: &[u8; 8], tolerance: &[u8; 8]) -> Result<(Line, Line), Refusal>
+fn examine_two(
+    bench: &mut Bench<Binary64>,
+    order: u8,
+    first: &[u8; 8],
+    second: &[u8; 8],
+    tolerance: &[u8; 8],
+) -> Result<(Line, Line), Refusal>
     requires { ⌜ Standing (now bench) ⌝ }
     ensures { λ _. ⌜ Standing (now (bench .exit)) ⌝ }
 {
@@ -125,7 +149,11 @@ fn clear(bench: &mut Bench<Binary64>) -> Line
 fn main(rt: LibcRuntime) -> io::Result<()> {
     rounding_laws();
     worked_figures();
-    let mut row = [Cell { sum: 0u64, correction: 0, errors: 0 }; 4];
+    let mut row = [Cell {
+        sum: 0u64,
+        correction: 0,
+        errors: 0,
+    }; 4];
     if let Err(refusal) = check_row(&row) {
         return rt.println(Line::Refused(refusal));
     }

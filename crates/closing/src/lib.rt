@@ -1,6 +1,6 @@
 // Closing an order of a row to its value and error bound, and the verdict on a claim. Generic over the arithmetic.
 ghost use mathlib.Core.Path.{_≡_};
-ghost use Prim.Native.Nat.{_≤_, _<_};
+ghost use Prim.Native.Nat.{_≤_};
 ghost use lib.Signed.{ltZ};
 ghost use Rattle.arithmetic.specs.Meaning.{Number as IsNumber};
 ghost use Rattle.coefficients.specs.Exact.{signed};
@@ -26,7 +26,12 @@ fn with_sign<A: Arithmetic>(arith: &A, v: A::Number, k: u8) -> A::Number
 }
 
 // The six operations for an order k, where n zeros are held: the value and the bound, or the operation that left its range.
-fn close_numbers<A: Arithmetic>(arith: &mut A, cell: Numbers<A::Number>, n: u8, k: u8) -> Result<(A::Number, A::Number), u8>
+fn close_numbers<A: Arithmetic>(
+    arith: &mut A,
+    cell: Numbers<A::Number>,
+    n: u8,
+    k: u8,
+) -> Result<(A::Number, A::Number), u8>
     requires law { ⌜ A·Arithmetic .lawful (now arith) ⌝ }
     requires numbers { ⌜ Are-numbers (A·Arithmetic .setting (now arith) .meaning) (A·Arithmetic .value) cell ⌝ }
     requires few { ⌜ n ≤ 64 ⌝ }
@@ -58,7 +63,12 @@ fn close_numbers<A: Arithmetic>(arith: &mut A, cell: Numbers<A::Number>, n: u8, 
 }
 
 // Closes the order k from the numbers of its cell. Order 0 is 1 with the bound 0.
-fn close_order<A: Arithmetic>(arith: &mut A, cell: Numbers<A::Number>, n: u8, k: u8) -> Result<(A::Number, A::Number), u8>
+fn close_order<A: Arithmetic>(
+    arith: &mut A,
+    cell: Numbers<A::Number>,
+    n: u8,
+    k: u8,
+) -> Result<(A::Number, A::Number), u8>
     requires law { ⌜ A·Arithmetic .lawful (now arith) ⌝ }
     requires numbers { ⌜ Are-numbers (A·Arithmetic .setting (now arith) .meaning) (A·Arithmetic .value) cell ⌝ }
     requires few { ⌜ n ≤ 64 ⌝ }
@@ -74,7 +84,12 @@ fn close_order<A: Arithmetic>(arith: &mut A, cell: Numbers<A::Number>, n: u8, k:
 }
 
 // Closes the order k, whose cell is given, where n zeros are held: the value and the bound, or the operation that left its range.
-pub fn close<A: Arithmetic>(arith: &mut A, cell: Cell<A::Plain>, n: u8, k: u8) -> Result<(A::Number, A::Number), u8>
+pub fn close<A: Arithmetic>(
+    arith: &mut A,
+    cell: Cell<A::Plain>,
+    n: u8,
+    k: u8,
+) -> Result<(A::Number, A::Number), u8>
     requires law { ⌜ A·Arithmetic .lawful (now arith) ⌝ }
     requires few { ⌜ n ≤ 64 ⌝ }
     ensures answer { λ r. ⌜ closing (A·Arithmetic .value) r ≡ close-of (A·Arithmetic .setting (now (arith .entry)) .meaning) (reading (A·Arithmetic .setting (now (arith .entry))) cell) n k ⌝ }
@@ -97,7 +112,13 @@ fn is_below<A: Arithmetic>(arith: &A, a: A::Number, b: A::Number) -> bool
 }
 
 // The five operations of a verdict, and then the verdict; or the operation that left its range.
-fn judge_value<A: Arithmetic>(arith: &mut A, value: A::Number, bound: A::Number, claim: A::Number, tolerance: A::Number) -> Result<Verdict, u8>
+fn judge_value<A: Arithmetic>(
+    arith: &mut A,
+    value: A::Number,
+    bound: A::Number,
+    claim: A::Number,
+    tolerance: A::Number,
+) -> Result<Verdict, u8>
     requires law { ⌜ A·Arithmetic .lawful (now arith) ⌝ }
     requires value { ⌜ IsNumber (A·Arithmetic .setting (now arith) .meaning) (A·Arithmetic .value value) ⌝ }
     requires bound { ⌜ IsNumber (A·Arithmetic .setting (now arith) .meaning) (A·Arithmetic .value bound) ⌝ }
@@ -133,7 +154,12 @@ fn judge_value<A: Arithmetic>(arith: &mut A, value: A::Number, bound: A::Number,
 }
 
 // The verdict on a claim within a tolerance, from a value and its bound; or the operation that left its range.
-pub fn judge<A: Arithmetic>(arith: &mut A, coefficient: (A::Number, A::Number), claim: A::Number, tolerance: A::Number) -> Result<Verdict, u8>
+pub fn judge<A: Arithmetic>(
+    arith: &mut A,
+    coefficient: (A::Number, A::Number),
+    claim: A::Number,
+    tolerance: A::Number,
+) -> Result<Verdict, u8>
     requires law { ⌜ A·Arithmetic .lawful (now arith) ⌝ }
     requires value { ⌜ IsNumber (A·Arithmetic .setting (now arith) .meaning) (A·Arithmetic .value (coefficient .0)) ⌝ }
     requires bound { ⌜ IsNumber (A·Arithmetic .setting (now arith) .meaning) (A·Arithmetic .value (coefficient .1)) ⌝ }

@@ -15,6 +15,7 @@ crossed P Q p q v v′ s s′ = apart P Q p q v v′ ∙ sym (joined P Q p q (v 
   where
     apart : (P Q p q : ℕ) (v v′ : ℤ) → (v *ℤ pos Q -ℤ v′ *ℤ pos P) *ℤ pos (p * q) ≡ (v *ℤ pos p) *ℤ pos (Q * q) +ℤ negℤ ((v′ *ℤ pos q) *ℤ pos (P * p))
     apart P Q p q v v′ = ring ((at v ⊗ num Q ⊕ (⊖ (at v′ ⊗ num P))) ⊗ num (p * q)) ((at v ⊗ num p) ⊗ num (Q * q) ⊕ (⊖ ((at v′ ⊗ num q) ⊗ num (P * p)))) (omega arith)
+
     joined : (P Q p q : ℕ) (a c s s′ : ℤ) → ((a -ℤ s *ℤ pos P) *ℤ pos (Q * q) +ℤ negℤ ((c -ℤ s′ *ℤ pos Q) *ℤ pos (P * p))) +ℤ (s *ℤ pos q -ℤ s′ *ℤ pos p) *ℤ pos (P * Q) ≡ a *ℤ pos (Q * q) +ℤ negℤ (c *ℤ pos (P * p))
     joined P Q p q a c s s′ = ring ((((at a ⊕ (⊖ (at s ⊗ num P))) ⊗ num (Q * q)) ⊕ (⊖ ((at c ⊕ (⊖ (at s′ ⊗ num Q))) ⊗ num (P * p)))) ⊕ (at s ⊗ num q ⊕ (⊖ (at s′ ⊗ num p))) ⊗ num (P * Q)) (at a ⊗ num (Q * q) ⊕ (⊖ (at c ⊗ num (P * p)))) (omega arith)
 
@@ -36,6 +37,7 @@ agree-by P Q p q v v′ s s′ e e′ hp hq same h h′ =
   where
     gone : (a b : ℤ) → a ≡ b → a -ℤ b ≡ pos 0
     gone a b e = omega (arith, ints)
+
     all : natAbs (v *ℤ pos Q -ℤ v′ *ℤ pos P) * (p * q) ≤ natAbs (v *ℤ pos p -ℤ s *ℤ pos P) * (Q * q) + natAbs (v′ *ℤ pos q -ℤ s′ *ℤ pos Q) * (P * p)
     all = rw (← abs-mul (v *ℤ pos Q -ℤ v′ *ℤ pos P) (pos (p * q)), crossed P Q p q v v′ s s′) (crossed-size (v *ℤ pos p -ℤ s *ℤ pos P) (v′ *ℤ pos q -ℤ s′ *ℤ pos Q) (s *ℤ pos q -ℤ s′ *ℤ pos p) (Q * q) (P * p) (P * Q) (gone (s *ℤ pos q) (s′ *ℤ pos p) same))
 

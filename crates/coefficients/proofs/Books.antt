@@ -50,6 +50,7 @@ ask-from true true s (done c) v e h = (tt, tt, rw (e₁, e₂))
   where
     e₁ : v ≡ c .value
     e₁ = cc
+
     e₂ : e ≡ c .bound
     e₂ = cc
 ask-from true true s (stopped o) v e h = let z : _≡_ {A = ℕ} 0 1 = cc in absurd (omega arith)
@@ -87,11 +88,15 @@ mark-from b s name k q t v h =
 
 enclosed-zero : (m : Meaning) → Rules m → (zs : List ℤ) (c : Cell) (n : ℕ) (v : Closed) → close m c n 0 ≡ done v → Enclosed m 0 (symmetric 0 zs) (m .Q ^ 0) v
 enclosed-zero m R zs c n v e = subst (Enclosed m 0 (symmetric 0 zs) (m .Q ^ 0)) end (record {
-    value-number = R .one-is-number; bound-number = zero-is-number m R; bound-natural = refl;
-    encloses = rw (sym-zero zs, pow-zero (m .Q)) (none (m .Q)) })
+  value-number = R .one-is-number;
+  bound-number = zero-is-number m R;
+  bound-natural = refl;
+  encloses = rw (sym-zero zs, pow-zero (m .Q)) (none (m .Q));
+})
   where
     end : record { value = pos (m .Q); bound = pos 0 } ≡ v
     end = cc
+
     none : (q : ℕ) → natAbs (pos q *ℤ pos 1 -ℤ pos 1 *ℤ pos q) ≤ 0 * 1
     none q = omega (arith, ints)
 
@@ -109,6 +114,7 @@ answered b R before k v e p = enclosed b R _ (r .state) k _ (r .state-holds) (le
   where
     r : Reached b (zeros-held (b .meaning) before) (ask k) (asked v e)
     r = reached b R before (ask k) (asked v e) p
+
     f : T (leb k (b .K)) × T (leb k (r .state .held)) × (close (b .meaning) (cell (r .state .row) k) (r .state .held) k ≡ done (record { value = v; bound = e }))
     f = ask-from (leb k (b .K)) (leb k (r .state .held)) (r .state) _ v e (r .answer-is)
 
@@ -154,20 +160,28 @@ values-agree b b′ R R′ before before′ k v e v′ e′ p p′ same = rw (a 
   where
     P : ℕ
     P = b .meaning .Q
+
     Q : ℕ
     Q = b′ .meaning .Q
+
     zs : List ℤ
     zs = zeros-held (b .meaning) before
+
     zs′ : List ℤ
     zs′ = zeros-held (b′ .meaning) before′
+
     S : ℤ
     S = symmetric k zs
+
     S′ : ℤ
     S′ = symmetric k zs′
+
     a : Enclosed (b .meaning) k (symmetric k (zeros-held (b .meaning) before)) (b .meaning .Q ^ k) (record { value = v; bound = e })
     a = answered b R before k v e p
+
     a′ : Enclosed (b′ .meaning) k (symmetric k (zeros-held (b′ .meaning) before′)) (b′ .meaning .Q ^ k) (record { value = v′; bound = e′ })
     a′ = answered b′ R′ before′ k v′ e′ p′
+
     exact : signed k S *ℤ pos (Q ^ k) ≡ signed k S′ *ℤ pos (P ^ k)
     exact = signed-times k S (Q ^ k) ∙ ap (signed k) (sym (sym-times k Q zs) ∙ sym-equally _ _ same k ∙ sym-times k P zs′) ∙ sym (signed-times k S′ (P ^ k))
 
@@ -185,15 +199,17 @@ after-more b (e′ ∷ book) s e = after-more b book (step b s (e′ .call) .the
 
 stands-more : (b : Making) (book : List Entry) (s : State) (c : Call) (a : Answer) → a ≡ step b s c .answer → Stands b book s → Stands b (book ++ (record { call = c; answer = a } ∷ [])) (step b s c .then)
 stands-more b book s c a h st = record {
-    kept = kept-more b book (new-bench b) (record { call = c; answer = a }) (st .kept) (rw (st .state-is) h);
-    state-is = after-more b book (new-bench b) (record { call = c; answer = a }) ∙ ap (λ t. step b t c .then) (st .state-is) }
+  kept = kept-more b book (new-bench b) (record { call = c; answer = a }) (st .kept) (rw (st .state-is) h);
+  state-is = after-more b book (new-bench b) (record { call = c; answer = a }) ∙ ap (λ t. step b t c .then) (st .state-is);
+}
 
 place-here : (b : Making) (book : List Entry) (s : State) (c c′ : Call) (a a′ : Answer) → a ≡ step b s c .answer → Stands b book s → c ≡ c′ → a ≡ a′ → Place b book c′ a′
 place-here b book s c c′ a a′ h st c-is a-is = record { rest = []; kept = rw (← c-is, ← a-is) (stands-more b book s c a h st .kept) }
 
 pub call-law : (b : Making) → Rules (b .meaning) → (s : State) (c : Call) (a : Answer) → a ≡ step b s c .answer → Call-law b s c a
 call-law b R s c a h = record {
-    goes-on = λ book st. stands-more b book s c a h st;
-    encloses = λ book k v e st c-is a-is. values-enclosed b R book k v e (place-here b book s c _ a _ h st c-is a-is);
-    judges = λ book n k claim tolerance v q t st c-is a-is q-is t-is. verdicts-hold b R book n k claim tolerance v (place-here b book s c _ a _ h st c-is a-is) q t q-is t-is;
-    agrees = λ book k v e st c-is a-is b′ R′ before′ v′ e′ p′ same. values-agree b b′ R R′ book before′ k v e v′ e′ (place-here b book s c _ a _ h st c-is a-is) p′ same }
+  goes-on = λ book st. stands-more b book s c a h st;
+  encloses = λ book k v e st c-is a-is. values-enclosed b R book k v e (place-here b book s c _ a _ h st c-is a-is);
+  judges = λ book n k claim tolerance v q t st c-is a-is q-is t-is. verdicts-hold b R book n k claim tolerance v (place-here b book s c _ a _ h st c-is a-is) q t q-is t-is;
+  agrees = λ book k v e st c-is a-is b′ R′ before′ v′ e′ p′ same. values-agree b b′ R R′ book before′ k v e v′ e′ (place-here b book s c _ a _ h st c-is a-is) p′ same;
+}

@@ -24,6 +24,7 @@ closing-α U T P a A B M Q E γ e α D ES q h₁ h₂ h₃ h₄ h₅ cut pP pQ p
   where
     fourth : U * U * (U * U * (A * D)) ≤ T * T * T * B * M * (α * q)
     fourth = α₄ U (A * D) T B e q α M (α₃ U Q (A * D) T γ B E q e (α₂ P (A * D) a Q U T γ (B * (E * q)) (α₁ A P D a ES B E q h₁ h₂) h₃ pP) h₄ pQ) h₅
+
     last : (H A D Y Z : ℕ) → H * (H * (A * D)) ≤ Z * Y → Z ≤ H * (H * A) → H * (H * A) * D ≤ H * (H * A) * Y
     last H A D Y Z h k = omega (arith, h, mul-le-mul-right Y k)
 
@@ -38,6 +39,7 @@ closing-bound U M c s b e h k = le-of-mul-le-mul-left {k = U * U * U} (go (U + 1
   where
     p : 0 < U
     p = omega arith
+
     go : (T : ℕ) → T * T * M ≤ U * U * U → U * c ≤ T * s → U * (s * U) ≤ T * (b * M) → U * U * U * c ≤ U * U * U * b
     go T z h k = omega (arith, mul-le-mul-right b z, mul-le-mul-left (U * U) h, mul-le-mul-left T k)
 

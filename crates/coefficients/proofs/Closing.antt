@@ -83,6 +83,7 @@ module _ (m : Meaning) (R : Rules m) where
     where
       left : 0 < m .U - k
       left = omega (arith, R .fine)
+
       n : Natural (m .U) (r *ℤ pos (m .U - k)) v
       n = near-natural (m .U) _ _ some-U (rw na at (lift-near m R a r k hk ha e))
 
@@ -104,35 +105,48 @@ module _ (m : Meaning) (R : Rules m) where
           product m γ (c .E) ≡ some p → lift m p (3 * n) ≡ some α → sum m (size (vc .error)) α ≡ some t → lift m t 2 ≡ some b →
           done (record { value = signed (suc k) (vc .main); bound = b }) ≡ done v → Enclosed m (suc k) s q v
       closes vc γ p α t b q₁ i₂ i₃ i₄ i₅ i₆ l = subst (Enclosed m (suc k) s q) end (record {
-          value-number = signed-number m R (suc k) (vc .main) (sum-number m R (c .S) (c .C) (vc .main) (q₁ .main-is));
-          bound-number = b-up .number;
-          bound-natural = b-up .natural;
-          encloses = rw (signed-off (suc k) (vc .main) s q (m .Q)) whole })
+        value-number = signed-number m R (suc k) (vc .main) (sum-number m R (c .S) (c .C) (vc .main) (q₁ .main-is));
+        bound-number = b-up .number;
+        bound-natural = b-up .natural;
+        encloses = rw (signed-off (suc k) (vc .main) s q (m .Q)) whole;
+      })
         where
           end : record { value = signed (suc k) (vc .main); bound = b } ≡ v
           end = cc
+
           r : ℕ
           r = n - 1
+
           γ-up : Above m γ (2 * r * m .Q) (natAbs γ * (m .U - 2 * r))
           γ-up = lift-above (grain m (2 * r)) γ (2 * r) (2 * r * m .Q) (omega arith) (R .grain-is-number (2 * r) (omega arith)) (R .grain-is-exact (2 * r) (omega arith)) i₂
+
           p-up : Above m p (natAbs γ * natAbs (c .E)) (natAbs p * m .Q)
           p-up = product-above γ (c .E) p (γ-up .number) (o .E-number) (γ-up .natural) (o .natural) i₃
+
           α-up : Above m α (natAbs p * m .U) (natAbs α * (m .U - 3 * n))
           α-up = lift-above p α (3 * n) (natAbs p * m .U) (omega arith) (p-up .number) (natural-times p (p-up .natural)) i₄
+
           c-number : Number m (vc .error)
           c-number = rw (q₁ .error-is) (R .sum-error-is-number (c .S) (c .C) (vc .main) (o .S-number) (o .C-number) (q₁ .main-is))
+
           t-up : Above m t (natAbs (vc .error) + natAbs α) (natAbs t)
           t-up = sum-above (size (vc .error)) α t (size-number m R (vc .error) c-number) (α-up .number) refl (α-up .natural) i₅
+
           b-up : Above m b (natAbs t * m .U) (natAbs b * (m .U - 2))
           b-up = lift-above t b 2 (natAbs t * m .U) (lit≤ tt) (t-up .number) (natural-times t (t-up .natural)) i₆
+
           D : ℕ
           D = natAbs (c .C *ℤ pos q -ℤ err m s q c)
+
           sum-up : 3 * suc (n - 1) + (m .U - 3 * n) ≡ m .U
           sum-up = omega (arith, R .fine, h₁, h₂)
+
           α-bound : D ≤ natAbs α * q
           α-bound = closing-α (m .U) (m .U + 1) (m .U - 2 * r) (2 * r) (m .U ^ (3 * r)) ((m .U + 1) ^ (3 * r)) (m .U - 3 * n) (m .Q) (natAbs (c .E)) (natAbs γ) (natAbs p) (natAbs α) D (o .es) q
               (o .corrected) (o .sizes) (γ-up .above) (p-up .above) (α-up .above) (cut-at (m .U) r (m .U - 3 * n) sum-up) (omega (arith, R .fine, h₂)) (R .some-scale) some-U (some-power (m .U) (3 * r) some-U)
+
           b-bound : natAbs (vc .error) + natAbs α ≤ natAbs b
           b-bound = closing-bound (m .U) (m .U - 2) _ (natAbs t) (natAbs b) (omega (arith, R .fine)) (t-up .above) (b-up .above)
+
           whole : natAbs (vc .main *ℤ pos q -ℤ s *ℤ pos (m .Q)) ≤ natAbs b * q
           whole = all-in _ D (natAbs (vc .error)) (natAbs α) (natAbs b) q (rw (around (vc .main) s (c .S) (c .C) q (m .Q), q₁ .error-is) (around-size (c .C *ℤ pos q -ℤ err m s q c) (sum-error (c .S) (c .C) (vc .main)) q)) α-bound b-bound

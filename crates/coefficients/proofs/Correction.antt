@@ -33,24 +33,30 @@ pub correction-step : (U V a : ℕ) (x c₀ c₁ W w g h c ε₀ ε₁ : ℤ) (e
     V * natAbs (c -ℤ (ε₁ +ℤ W +ℤ x *ℤ ε₀)) ≤ (a + 2) * (es₁ + natAbs x * es₀ + natAbs W)
 correction-step U V a x c₀ c₁ W w g h c ε₀ ε₁ es₀ es₁ e some o₀ o₁ nw ng nh nc =
     gamma-step U V a (es₁ + X * es₀) (d₁ + X * d₀) (natAbs W) (natAbs (w -ℤ W)) (rg + rh) (natAbs (c -ℤ (g +ℤ h))) _ e some
-        (omega (arith, o₁ .corrected, mul-le-mul-left X (o₀ .corrected)))
-        (nw .by-exact)
-        (omega (arith, ng .by-exact, nh .by-exact, sum-c, prod-c))
-        (omega (arith, nc .by-exact, abs-tri g h, abs-within g (c₁ +ℤ w), abs-within h (x *ℤ c₀), sum-c, prod-c))
-        (omega (arith, ap natAbs (apart c g h c₁ w W (x *ℤ c₀) ε₁ (x *ℤ ε₀)), six (c -ℤ (g +ℤ h)) (g -ℤ (c₁ +ℤ w)) (w -ℤ W) (h -ℤ x *ℤ c₀) (c₁ -ℤ ε₁) (x *ℤ c₀ -ℤ x *ℤ ε₀), product-apart x c₀ ε₀))
+    (omega (arith, o₁ .corrected, mul-le-mul-left X (o₀ .corrected)))
+    (nw .by-exact)
+    (omega (arith, ng .by-exact, nh .by-exact, sum-c, prod-c))
+    (omega (arith, nc .by-exact, abs-tri g h, abs-within g (c₁ +ℤ w), abs-within h (x *ℤ c₀), sum-c, prod-c))
+    (omega (arith, ap natAbs (apart c g h c₁ w W (x *ℤ c₀) ε₁ (x *ℤ ε₀)), six (c -ℤ (g +ℤ h)) (g -ℤ (c₁ +ℤ w)) (w -ℤ W) (h -ℤ x *ℤ c₀) (c₁ -ℤ ε₁) (x *ℤ c₀ -ℤ x *ℤ ε₀), product-apart x c₀ ε₀))
   where
     X : ℕ
     X = natAbs x
+
     d₀ : ℕ
     d₀ = natAbs (c₀ -ℤ ε₀)
+
     d₁ : ℕ
     d₁ = natAbs (c₁ -ℤ ε₁)
+
     rg : ℕ
     rg = natAbs (g -ℤ (c₁ +ℤ w))
+
     rh : ℕ
     rh = natAbs (h -ℤ x *ℤ c₀)
+
     sum-c : natAbs (c₁ +ℤ w) ≤ es₁ + d₁ + natAbs W + natAbs (w -ℤ W)
     sum-c = omega (arith, abs-tri c₁ w, abs-within c₁ ε₁, abs-within w W, o₁ .error)
+
     prod-c : natAbs (x *ℤ c₀) ≤ X * es₀ + X * d₀
     prod-c = omega (arith, abs-mul x c₀, mul-le-mul-left X k)
       where
@@ -62,9 +68,9 @@ pub error-step : (q qj : ℕ) (x s s₀ S S₀ S₁ W : ℤ) → pos q *ℤ (S�
     (s +ℤ x *ℤ s₀) *ℤ pos q -ℤ S₁ *ℤ pos (q * qj) ≡ (s *ℤ pos q -ℤ S *ℤ pos (q * qj)) +ℤ W *ℤ pos (q * qj) +ℤ x *ℤ (s₀ *ℤ pos q -ℤ S₀ *ℤ pos qj)
 error-step q qj x s s₀ S S₀ S₁ W h =
     ring ((at s ⊕ at x ⊗ at s₀) ⊗ num q ⊕ (⊖ (at S₁ ⊗ num (q * qj))))
-         (num q ⊗ (at s ⊕ at x ⊗ at s₀) ⊕ num (q * qj) ⊗ at W ⊕ (⊖ (num qj ⊗ (num q ⊗ (at S₁ ⊕ at W))))) (omega arith)
+    (num q ⊗ (at s ⊕ at x ⊗ at s₀) ⊕ num (q * qj) ⊗ at W ⊕ (⊖ (num qj ⊗ (num q ⊗ (at S₁ ⊕ at W))))) (omega arith)
     ∙ ap (λ z. pos q *ℤ (s +ℤ x *ℤ s₀) +ℤ pos (q * qj) *ℤ W +ℤ negℤ (pos qj *ℤ z)) h
     ∙ ring (num q ⊗ (at s ⊕ at (x *ℤ s₀)) ⊕ num (q * qj) ⊗ at W ⊕ (⊖ (num qj ⊗ (num q ⊗ at S ⊕ at (x *ℤ S₀)))))
-         ((at s ⊗ num q ⊕ (⊖ (at S ⊗ num (q * qj)))) ⊕ at W ⊗ num (q * qj) ⊕ (num q ⊗ at (x *ℤ s₀) ⊕ (⊖ (num qj ⊗ at (x *ℤ S₀))))) (omega arith)
+    ((at s ⊗ num q ⊕ (⊖ (at S ⊗ num (q * qj)))) ⊕ at W ⊗ num (q * qj) ⊕ (num q ⊗ at (x *ℤ s₀) ⊕ (⊖ (num qj ⊗ at (x *ℤ S₀))))) (omega arith)
     ∙ ap (λ z. (s *ℤ pos q -ℤ S *ℤ pos (q * qj)) +ℤ W *ℤ pos (q * qj) +ℤ z)
-        (ring (num q ⊗ (at x ⊗ at s₀) ⊕ (⊖ (num qj ⊗ (at x ⊗ at S₀)))) (at x ⊗ (at s₀ ⊗ num q ⊕ (⊖ (at S₀ ⊗ num qj)))) (omega arith))
+    (ring (num q ⊗ (at x ⊗ at s₀) ⊕ (⊖ (num qj ⊗ (at x ⊗ at S₀)))) (at x ⊗ (at s₀ ⊗ num q ⊕ (⊖ (at S₀ ⊗ num qj)))) (omega arith))

@@ -38,12 +38,14 @@ gamma-step U V a G D w r0 r r3 N e h hD h0 h1 h3 k = le-of-mul-le-mul-left {k = 
   where
     some : 0 < U
     some = omega arith
+
     two : 0 < V + 2
     two = omega arith
+
     whole : (V + 2) * (U * U * U) * (V * N) ≤ (V + 2) * (U * U * U) * ((a + 2) * (G + w))
     whole = widened (U * U) U (V + 2) V (a + 2) G w ((a + 2) * U + 1) (3 * (U * U) + 3 * U + 1) N
         (joined (V + 2) (U * U * U * N) (U * (U + 1) * (U + 1) * D + U * (2 * U + 1) * G) (U * U * ((a + 2) * U + 1) * G) (3 * (U * U) + 3 * U + 1) w
-            (total U G D w r0 r r3 N h0 h1 h3 k) (old-part U (V + 2) a G D e hD))
+        (total U G D w r0 r r3 N h0 h1 h3 k) (old-part U (V + 2) a G D e hD))
         (old-cut U V a e) (new-cut U V a e h)
 
 -- ---- (1 + u)^N (1 − N u) ≤ 1, where M = U − N

@@ -83,8 +83,10 @@ alone w W x = ring (at w ⊕ (⊖ (num 0 ⊕ at W ⊕ at x ⊗ num 0))) (at w �
 module _ (m : Meaning) (R : Rules m) (x : ℤ) (x-number : Number m x) (c c₀ c′ : Cell) (d : Did m x c c₀ c′) where
   abbrev Q : ℕ
   Q = m .Q
+
   abbrev U : ℕ
   U = m .U
+
   abbrev W : ℤ
   W = d .β +ℤ d .σ
 
@@ -128,6 +130,7 @@ module _ (m : Meaning) (R : Rules m) (x : ℤ) (x-number : Number m x) (c c₀ c
       where
         made : pos Q *ℤ (d .p +ℤ d .β) ≡ x *ℤ c₀ .S
         made = rw (d .β-is) (R .product-error-is-exact x (c₀ .S) (d .p) x-number S₀-n (d .p-is))
+
         parts : c′ .S +ℤ (d .β +ℤ d .σ) ≡ c .S +ℤ (d .p +ℤ d .β)
         parts = rw (d .σ-is) (regroup (c′ .S) (d .β) (c .S) (d .p))
 
@@ -158,10 +161,13 @@ module _ (m : Meaning) (R : Rules m) (x : ℤ) (x-number : Number m x) (c c₀ c
     module _ (r : ℕ) (small : r ≤ 62) (s s₀ : ℤ) (q : ℕ) (o : Holds m r s (Q * q) c) (o₀ : Holds m r s₀ q c₀) where
       abbrev QJ : ℕ
       QJ = Q * q
+
       abbrev ε₁ : ℤ
       ε₁ = err m s QJ c
+
       abbrev ε₀ : ℤ
       ε₀ = err m s₀ q c₀
+
       abbrev ε′ : ℤ
       ε′ = err m (s +ℤ x *ℤ s₀) QJ c′
 
@@ -196,20 +202,24 @@ module _ (m : Meaning) (R : Rules m) (x : ℤ) (x-number : Number m x) (c c₀ c
       corrected-later : 1 ≤ r → (U - 2 * suc r) * natAbs (c′ .C *ℤ pos QJ -ℤ ε′) ≤ 2 * suc r * es′
       corrected-later k = rw error-is (reshape (U - 2 * suc r) _ r (o .es) (natAbs x * o₀ .es) (natAbs (W *ℤ pos QJ))
           (correction-step U (U - 2 * suc r) (2 * r) x (c₀ .C *ℤ pos q) (c .C *ℤ pos QJ) (W *ℤ pos QJ) (d .w *ℤ pos QJ) (d .g *ℤ pos QJ) (d .h *ℤ pos QJ) (c′ .C *ℤ pos QJ) ε₀ ε₁ (o₀ .es) (o .es) room (omega arith)
-              (record { error = o₀ .error; corrected = rw room-before at (o₀ .corrected) }) (record { error = o .error; corrected = rw room-before at (o .corrected) })
-              w-scaled g-scaled h-scaled C-scaled))
+          (record { error = o₀ .error; corrected = rw room-before at (o₀ .corrected) }) (record { error = o .error; corrected = rw room-before at (o .corrected) })
+          w-scaled g-scaled h-scaled C-scaled))
 
       corrected-early : r ≡ 0 → (U - 2 * 1) * natAbs (c′ .C *ℤ pos QJ -ℤ ε′) ≤ 2 * 1 * es′
       corrected-early k = rw (error-is, no-ε₁, no-ε₀, C-is-w, alone (d .w *ℤ pos QJ) (W *ℤ pos QJ) x) (early U _ (natAbs (W *ℤ pos QJ)) es′ (w-scaled .by-exact) (omega arith))
         where
           no-ε₁ : ε₁ ≡ pos 0
           no-ε₁ = zero-size ε₁ (o .es) (o .error) (o .young k .2)
+
           no-ε₀ : ε₀ ≡ pos 0
           no-ε₀ = zero-size ε₀ (o₀ .es) (o₀ .error) (o₀ .young k .2)
+
           g-is-w : d .g ≡ d .w
           g-is-w = sum-zero-left m R (d .w) (d .g) w-n (rw (o .young k .0) at (d .g-is))
+
           h-is-0 : d .h ≡ pos 0
           h-is-0 = product-zero m R x (d .h) (rw (o₀ .young k .0) at (d .h-is))
+
           C-is-w : c′ .C ≡ d .w
           C-is-w = sum-zero-right m R (d .g) (c′ .C) g-n (rw h-is-0 at (d .C-is)) ∙ g-is-w
 
@@ -247,23 +257,29 @@ module _ (m : Meaning) (R : Rules m) (x : ℤ) (x-number : Number m x) (c c₀ c
 -- ---- a cell in which nothing was rounded
 pub exact-cell : (m : Meaning) → Rules m → (r : ℕ) (s : ℤ) (q : ℕ) (c : Cell) → Number m (c .S) → c .C ≡ pos 0 → c .E ≡ pos 0 → s *ℤ pos (m .Q) ≡ c .S *ℤ pos q → Holds m r s q c
 exact-cell m R r s q c n C-0 E-0 e = record {
-    S-number = n; C-number = rw C-0 (zero-is-number m R); E-number = rw E-0 (zero-is-number m R); es = 0;
-    error = rw no-error (omega arith);
-    corrected = rw (no-error, C-0) (nothing (m .U - 2 * r) (2 * r) q);
-    natural = rw E-0;
-    sizes = nothing′ (m .U ^ (3 * r)) _;
-    young = λ k. (C-0, E-0, refl) }
+  S-number = n;
+  C-number = rw C-0 (zero-is-number m R);
+  E-number = rw E-0 (zero-is-number m R);
+  es = 0;
+  error = rw no-error (omega arith);
+  corrected = rw (no-error, C-0) (nothing (m .U - 2 * r) (2 * r) q);
+  natural = rw E-0;
+  sizes = nothing′ (m .U ^ (3 * r)) _;
+  young = λ k. (C-0, E-0, refl);
+}
   where
     no-error : err m s q c ≡ pos 0
     no-error = rw e (same (c .S *ℤ pos q))
       where
         same : (z : ℤ) → z -ℤ z ≡ pos 0
         same z = omega (arith, ints)
+
     nothing : (a b q : ℕ) → a * natAbs (pos 0 *ℤ pos q -ℤ pos 0) ≤ b * 0
     nothing a b q = rw k (omega arith)
       where
         k : natAbs (pos 0 *ℤ pos q -ℤ pos 0) ≡ 0
         k = omega (arith, ints)
+
     nothing′ : (a b : ℕ) → a * 0 ≤ b
     nothing′ a b = omega arith
 
@@ -272,8 +288,10 @@ no-rest q x β h e = zero-size β (natAbs β) (omega arith) (omega (arith, mul-l
   where
     same : (z : ℤ) → z -ℤ z ≡ pos 0
     same z = omega (arith, ints)
+
     k : pos q *ℤ β ≡ pos 0
     k = ring (num q ⊗ at β) (num q ⊗ (at x ⊕ at β) ⊕ (⊖ (at x ⊗ num q))) (omega arith) ∙ rw e (same (x *ℤ pos q))
+
     none : q * natAbs β ≡ 0
     none = sym (abs-mul (pos q) β) ∙ ap natAbs k
 
@@ -305,6 +323,7 @@ module _ (m : Meaning) (R : Rules m) (x : ℤ) (x-number : Number m x) (c′ : C
     where
       first-g : d .g ≡ pos 0
       first-g = sum-zero-left m R (pos 0) (d .g) (zero-is-number m R) (rw first-w at (d .g-is))
+
       first-h : d .h ≡ pos 0
       first-h = product-zero m R x (d .h) (d .h-is)
 
@@ -313,6 +332,7 @@ module _ (m : Meaning) (R : Rules m) (x : ℤ) (x-number : Number m x) (c′ : C
     where
       first-f : d .f ≡ pos 0
       first-f = sum-zero-left m R (pos 0) (d .f) (zero-is-number m R) (rw first-w at (d .f-is))
+
       first-t : d .t ≡ pos 0
       first-t = product-zero m R (size x) (d .t) (d .t-is)
 

@@ -67,41 +67,55 @@ module _ (m : Meaning) (R : Rules m) (k : ℕ) (s : ℤ) (q : ℕ) (some-q : 0 <
         where
           end : judged (pos t) (size d) near far ≡ r
           end = cc
+
           M : ℕ
           M = m .U - 3
+
           three : M + 3 ≡ m .U
           three = omega (arith, R .fine)
+
           d-near : Near (m .U) d (c -ℤ v .value)
           d-near = sum-near m R c (negℤ (v .value)) d c-number (R .negative-is-number (v .value) (en .value-number)) i₁
+
           d-number : Number m (size d)
           d-number = size-number m R d (sum-number m R c (negℤ (v .value)) d i₁)
+
           a-up : Above m a (natAbs d + natAbs (v .bound)) (natAbs a)
           a-up = sum-above m R (size d) (v .bound) a d-number (en .bound-number) refl (en .bound-natural) i₂
+
           near-up : Above m near (natAbs a * m .U) (natAbs near * (m .U - 3))
           near-up = lift-above m R a near 3 (natAbs a * m .U) (lit≤ tt) (a-up .number) (natural-times m R a (a-up .natural)) i₃
+
           b-up : Above m b (t + natAbs (v .bound)) (natAbs b)
           b-up = sum-above m R (pos t) (v .bound) b t-number (en .bound-number) refl (en .bound-natural) i₄
+
           far-up : Above m far (natAbs b * m .U) (natAbs far * (m .U - 3))
           far-up = lift-above m R b far 3 (natAbs b * m .U) (lit≤ tt) (b-up .number) (natural-times m R b (b-up .natural)) i₅
+
           within : natAbs (c -ℤ v .value) + natAbs (v .bound) ≤ natAbs near
           within = near-cut (m .U) M _ (natAbs d) (natAbs (v .bound)) (natAbs a) (natAbs near) three (exact-size (m .U) d (c -ℤ v .value) d-near) (a-up .above) (near-up .above)
+
           beyond : natAbs far < natAbs d → t + natAbs (v .bound) < natAbs (c -ℤ v .value)
           beyond h = far-cut (m .U) M _ (natAbs d) (natAbs (v .bound)) t (natAbs b) (natAbs far) three (rounded-size (m .U) d (c -ℤ v .value) d-near) (b-up .above) (far-up .above) h
+
           if-right : judged (pos t) (size d) near far ≡ right → natAbs (c *ℤ pos q -ℤ signed k s *ℤ pos (m .Q)) ≤ t * q
           if-right h = omega (arith, at-most c (v .value) (signed k s) q (m .Q) (natAbs (v .bound)) (en .encloses), mul-le-mul-right q few)
             where
               low : T (leZ near (pos t))
               low = right-from (leZ near (pos t)) (ltZ far (size d)) h
+
               few : natAbs (c -ℤ v .value) + natAbs (v .bound) ≤ t
               few = omega (arith, within, under near t (near-up .natural) low)
                 where
                   under : (z : ℤ) (t : ℕ) → z ≡ pos (natAbs z) → T (leZ z (pos t)) → natAbs z ≤ t
                   under z t n h = omega (arith, ints)
+
           if-wrong : judged (pos t) (size d) near far ≡ wrong → t * q < natAbs (c *ℤ pos q -ℤ signed k s *ℤ pos (m .Q))
           if-wrong h = omega (arith, at-least c (v .value) (signed k s) q (m .Q) (natAbs (v .bound)) (en .encloses), mul-le-mul-right q (beyond below), some-q)
             where
               low : T (ltZ far (size d))
               low = wrong-from (leZ near (pos t)) (ltZ far (size d)) h
+
               below : natAbs far < natAbs d
               below = over far (natAbs d) (far-up .natural) low
                 where

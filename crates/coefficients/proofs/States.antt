@@ -63,9 +63,10 @@ mark-leaves b s name k (not-admitted c) T = (refl, refl)
 added-holds : (b : Making) → Rules (b .meaning) → (zs : List ℤ) (s : State) (x : ℤ) → Number (b .meaning) x → State-holds b zs s → s .held < 64 → (w : Update) →
     row-after (b .meaning) x (s .row) (min (suc (s .held)) (b .K)) ≡ w → State-holds b (cond (accepted (add-updated s w .answer)) (zs ++ x ∷ []) zs) (add-updated s w .then)
 added-holds b R zs s x n h few (written row) e = record {
-    held-is = omega (arith, h .held-is, length-append zs (x ∷ []));
-    few = omega (arith, h .held-is, length-append zs (x ∷ []));
-    row-holds = add-holds (b .meaning) R (b .K) zs (s .row) row x n (omega (arith, h .held-is)) (h .row-holds) (rw (h .held-is) at e) }
+  held-is = omega (arith, h .held-is, length-append zs (x ∷ []));
+  few = omega (arith, h .held-is, length-append zs (x ∷ []));
+  row-holds = add-holds (b .meaning) R (b .K) zs (s .row) row x n (omega (arith, h .held-is)) (h .row-holds) (rw (h .held-is) at e);
+}
 added-holds b R zs s x n h few (refused-at j o) e = h
 
 add-step : (b : Making) → Rules (b .meaning) → (zs : List ℤ) (s : State) (a : Admission) → ((x : ℤ) → a ≡ number x → Number (b .meaning) x) → State-holds b zs s →
@@ -73,7 +74,7 @@ add-step : (b : Making) → Rules (b .meaning) → (zs : List ℤ) (s : State) (
 add-step b R zs s (not-admitted c) n h = h
 add-step b R zs s (number x) n h =
     by-test (eqb (s .out) 0) _ _ P (λ t₁. by-test (ltb (s .held) 64) _ _ P (λ t₂. by-test (in-limits (b .meaning) x) _ _ P (λ t₃.
-        added-holds b R zs s x (n x refl) h (ltb→lt (s .held) 64 t₂) _ refl) h) h) h
+    added-holds b R zs s x (n x refl) h (ltb→lt (s .held) 64 t₂) _ refl) h) h) h
   where
     P : Step → Type 0
     P st = State-holds b (cond (accepted (st .answer)) (zs ++ x ∷ []) zs) (st .then)

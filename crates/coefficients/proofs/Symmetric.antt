@@ -47,8 +47,10 @@ sym-push (suc k) x (z ∷ zs) = rw (sym-cons (suc k) z (zs ++ x ∷ []), sym-pus
   where
     S : ℤ
     S = symmetric (suc (suc k)) zs
+
     A : ℤ
     A = symmetric (suc k) zs
+
     B : ℤ
     B = symmetric k zs
 
@@ -81,8 +83,10 @@ alike-swap y z zs (suc (suc k)) = rw (sym-cons (suc k) y (z ∷ zs), sym-cons (s
   where
     S : ℤ
     S = symmetric (suc (suc k)) zs
+
     A : ℤ
     A = symmetric (suc k) zs
+
     B : ℤ
     B = symmetric k zs
 

@@ -66,8 +66,26 @@ did m x c c₀ c′ e =
         sum m (c .E) (size w) ≡ some f → product m (size x) (c₀ .E) ≡ some t → sum m f t ≡ some e₉ →
         done (record { S = s₂ .main; C = c₆; E = e₉ }) ≡ done c′ → Did m x c c₀ c′
     ends s₁ s₂ w g h c₆ f t e₉ q₁ q₂ i₃ i₄ i₅ i₆ i₇ i₈ i₉ l = subst (Did m x c c₀) end (record {
-        p = s₁ .main; β = s₁ .error; σ = s₂ .error; w = w; g = g; h = h; f = f; t = t;
-        p-is = q₁ .main-is; β-is = q₁ .error-is; S-is = q₂ .main-is; σ-is = q₂ .error-is; w-is = i₃; g-is = i₄; h-is = i₅; C-is = i₆; f-is = i₇; t-is = i₈; E-is = i₉ })
+      p = s₁ .main;
+      β = s₁ .error;
+      σ = s₂ .error;
+      w = w;
+      g = g;
+      h = h;
+      f = f;
+      t = t;
+      p-is = q₁ .main-is;
+      β-is = q₁ .error-is;
+      S-is = q₂ .main-is;
+      σ-is = q₂ .error-is;
+      w-is = i₃;
+      g-is = i₄;
+      h-is = i₅;
+      C-is = i₆;
+      f-is = i₇;
+      t-is = i₈;
+      E-is = i₉;
+    })
       where
         end : record { S = s₂ .main; C = c₆; E = e₉ } ≡ c′
         end = cc

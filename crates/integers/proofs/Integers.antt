@@ -44,6 +44,7 @@ factor-cancels (negsuc a) (negsuc b) c h e = whole a b (eq-of-mul-eq-mul-right c
   where
     same : (x y : ℕ) → negℤ (pos x) ≡ negℤ (pos y) → x ≡ y
     same x y e = omega (arith, ints)
+
     whole : (a b : ℕ) → suc a ≡ suc b → negsuc a ≡ negsuc b
     whole a b e = ap negsuc (omega arith)
 

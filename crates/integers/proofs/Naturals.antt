@@ -48,11 +48,13 @@ dist-bound U x n y h k = go (decLe x n)
       where
         same : dist x (x + c) ≡ c
         same = omega arith
+
     high : (c : ℕ) → U * (n + c) ≤ U * n + y → U * dist (n + c) n ≤ y
     high c k = rw same (omega arith)
       where
         same : dist (n + c) n ≡ c
         same = omega arith
+
     go : Dec (x ≤ n) → U * dist x n ≤ y
     go (yes l) = let q : x + (n - x) ≡ n = omega arith in subst (λ (z : ℕ). U * dist x z ≤ y) q (low (n - x) (rw q k))
     go (no l) = let q : n + (x - n) ≡ x = omega arith in subst (λ (z : ℕ). U * dist z n ≤ y) q (high (x - n) (rw q h))

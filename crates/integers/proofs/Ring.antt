@@ -43,7 +43,6 @@ pub data Expr : Type 0 where
 infixl 6 _⊕_
 infixl 7 _⊗_
 infix 8 ⊖_
-
 abbrev pub value : Expr → ℤ
 value (at z) = z
 value (num n) = pos n

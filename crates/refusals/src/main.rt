@@ -13,17 +13,28 @@ use binary64::Binary64Arithmetic;
 use row::cell::Cell;
 use std::io;
 
-const EMPTY: Cell<u64> = Cell { sum: 0, correction: 0, errors: 0 };
+const EMPTY: Cell<u64> = Cell {
+    sum: 0,
+    correction: 0,
+    errors: 0,
+};
+
 const ZERO: [u8; 8] = [0, 0, 0, 0, 0, 0, 0, 0];
+
 const ONE: [u8; 8] = [0x3F, 0xF0, 0, 0, 0, 0, 0, 0];
+
 const MINUS_ONE: [u8; 8] = [0xBF, 0xF0, 0, 0, 0, 0, 0, 0];
 // 2^900, the largest number, and 2^901
 const LARGEST: [u8; 8] = [0x78, 0x30, 0, 0, 0, 0, 0, 0];
+
 const TOO_LARGE: [u8; 8] = [0x78, 0x40, 0, 0, 0, 0, 0, 0];
 // 2^-800, 2^-860 and 2^-901
 const SMALL: [u8; 8] = [0x0D, 0xF0, 0, 0, 0, 0, 0, 0];
+
 const SMALLER: [u8; 8] = [0x0A, 0x30, 0, 0, 0, 0, 0, 0];
+
 const TOO_SMALL: [u8; 8] = [0x07, 0xA0, 0, 0, 0, 0, 0, 0];
+
 const INFINITY: [u8; 8] = [0x7F, 0xF0, 0, 0, 0, 0, 0, 0];
 
 // The refusal of an addition, if it is refused.
@@ -75,7 +86,12 @@ fn added_while_out(bench: &mut Bench<Binary64>) -> Option<Refusal>
 }
 
 // 11 and 12: a marking that is refused; its question is withdrawn.
-fn marked(bench: &mut Bench<Binary64>, order: u8, claim: &[u8; 8], tolerance: &[u8; 8]) -> Option<Refusal>
+fn marked(
+    bench: &mut Bench<Binary64>,
+    order: u8,
+    claim: &[u8; 8],
+    tolerance: &[u8; 8],
+) -> Option<Refusal>
     requires { ⌜ Standing (now bench) ⌝ }
     ensures { λ _. ⌜ Standing (now (bench .exit)) ⌝ }
 {
@@ -114,7 +130,11 @@ fn issued_33(bench: &mut Bench<Binary64>, more: u8) -> Option<Refusal>
 {
     match bench.issue(&Binary64, 0) {
         Ok(question) => {
-            let refusal = if more == 0 { None } else { issued_33(bench, more - 1) };
+            let refusal = if more == 0 {
+                None
+            } else {
+                issued_33(bench, more - 1)
+            };
             withdraw(bench, question);
             refusal
         }

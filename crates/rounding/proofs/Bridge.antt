@@ -61,10 +61,13 @@ ieee-rounds p n d D =
   where
     k : ℕ
     k = drop p n d
+
     group : (x y d : ℕ) → x * y * d ≡ d * x * y
     group x y d = omega arith
+
     up : (w : ℕ) → w < 2 ^ size w → w < 2 ^ (p + (size w - p))
     up w h = le-trans h (pow-mono {i = size w} {j = p + (size w - p)} (omega arith))
+
     least : (j : ℕ) → k ≡ suc j → d * 2 ^ p * 2 ^ j ≤ n
     least j e = subst (λ (z : ℕ). z ≤ n) (group (2 ^ p) (2 ^ j) d) (subst (λ (z : ℕ). z * d ≤ n) (pow-add 2 p j) (le-div-iff-mul-le D .0 (size-reaches (n / d) (p + j) (omega arith))))
 

@@ -77,11 +77,13 @@ module _ (B p : ℕ) (base : 2 ≤ B) (digits : 1 ≤ p) where
         where
           turn : (h b x : ℕ) → h * (d * (b * x)) ≡ d * (b * h) * x
           turn h b x = omega arith
+
       less : (m x X z : ℕ) → m < X → x ≤ z → 0 < z → y ≡ m * x → y * d < d * X * z
       less m x X z u v w e = rw e (under (m * x) (X * z) (omega (arith, mul-le-mul-left m v, mul-le-mul-right z u)) (turn X z))
         where
           turn : (X z : ℕ) → d * X * z ≡ X * z * d
           turn X z = omega arith
+
           under : (s t : ℕ) → s < t → d * X * z ≡ t * d → s * d < d * X * z
           under s t g f = omega (arith, mul-le-mul-right d g)
 
@@ -117,6 +119,7 @@ module _ (B p : ℕ) (base : 2 ≤ B) (digits : 1 ≤ p) where
         where
           farther : (x y s : ℕ) → dist n x ≤ dist n s → y < s → s ≤ n → dist n y ≡ dist n x → ⊥
           farther x y s f g i j = omega arith
+
           below : Lower n d r y → ⊥
           below w = farther (r * d) (y * d) (w .stop) (w .near) (w .below) (w .low) q
 
@@ -132,6 +135,7 @@ module _ (B p : ℕ) (base : 2 ≤ B) (digits : 1 ≤ p) where
     where
       clash : (x y z : ℕ) → n < d * x * y → d * x * z ≤ n → y ≤ z → ⊥
       clash x y z u v w = omega (arith, mul-le-mul-left (d * x) w)
+
       go : Dec (suc (c .e) ≤ a .e) → Dec (suc (a .e) ≤ c .e) → c .e ≡ a .e
       go (yes l) k = let j = before (a .e) (omega arith) in absurd (clash (B ^ p) (B ^ c .e) (B ^ j .0) (c .enough) (a .least (j .0) (j .1)) (pow-le-pow-right (some-B B p base digits) (omega (arith, j .1))))
       go (no l) (yes k) = absurd (clash (B ^ p) (B ^ a .e) (B ^ a .e) (a .under) (c .least (a .e) k) (le-refl (B ^ a .e)))
@@ -142,16 +146,20 @@ module _ (B p : ℕ) (base : 2 ≤ B) (digits : 1 ≤ p) where
     where
       as-near : dist n (y * d) ≡ dist n (r * d)
       as-near = omega (arith, closest n d r y h a b)
+
       go : Dec (y ≡ r) → y ≡ r
       go (yes e) = e
       go (no ne) = absurd (clash (a .m) (c .m) (v .times) same (c .even) (v .tied .even) (v .tied .neighbours))
         where
           c : Even-significand B p n d y
           c = even (λ e. ne (sym e)) (sym as-near)
+
           v : Rival n d r y a
           v = rival n d r y h a b ne as-near
+
           same : c .m ≡ v .times
           same = cancel (c .m) (v .times) (B ^ a .e) (some-power B (a .e) (some-B B p base digits)) (ap (λ x. c .m * B ^ x) (sym (same-exponent n d r y a c)) ∙ sym (c .is) ∙ v .is)
+
           clash : (m s t : ℕ) → s ≡ t → s % 2 ≡ 0 → m % 2 ≡ 0 → (t ≡ suc m) ⊎ (m ≡ suc t) → ⊥
           clash m s t e i j (inl k) = omega arith
           clash m s t e i j (inr k) = omega arith

@@ -28,6 +28,7 @@ scaled a b A B L c C P e f =
   where
     first : (a b A B L c : ℕ) → a * L < b * L → a * L ≡ A * c → b * L ≡ B * c → A * c < B * c
     first a b A B L c h e f = omega arith
+
     second : (a b A B L c : ℕ) → A * c < B * c → a * L ≡ A * c → b * L ≡ B * c → a * L < b * L
     second a b A B L c h e f = omega arith
 
@@ -57,6 +58,7 @@ order-scaled true a false b A B L c C P e f =
   where
     nil : (L c : ℕ) → 0 * L ≡ 0 * c
     nil L c = omega arith
+
     both : (a b A B L c : ℕ) → a * L ≡ A * c → b * L ≡ B * c → (a + b) * L ≡ (A + B) * c
     both a b A B L c e f = omega arith
 order-scaled true a true b A B L c C P e f = let r = scaled b a B A L c C P f e in decided (ltb b a) (ltb B A) (λ h. lt→ltb B A (r .0 (ltb→lt b a h))) (λ h. lt→ltb b a (r .1 (ltb→lt B A h)))

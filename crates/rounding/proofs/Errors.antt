@@ -39,6 +39,7 @@ small-by U R Q N i E h e k pU pQ = le-of-mul-le-mul-right {k = Q * Q} (second (l
   where
     first : U * (R * (Q * Q)) ≤ U * (2 * (N * Q))
     first = omega (arith, mul-le-mul-right (N * Q) pU)
+
     second : R * (Q * Q) ≤ 2 * (N * Q) → R * (Q * Q) ≤ i * (Q * Q)
     second w = omega (arith, mul-le-mul-left (i * Q) k, ap (λ x. x * Q) e)
 
@@ -52,20 +53,23 @@ record Whole (β p Q n : ℕ) : Type 0 where
 module _ (β p Q : ℕ) (base : 2 ≤ β) (digits : 1 ≤ p) (scale : 1 ≤ Q) where
   abbrev R : ℕ → ℕ → ℕ
   R n d = rounded β p n d
+
   abbrev U : ℕ
   U = 2 * β ^ (p - 1)
 
   -- ---- the relative error
   close-from : (z : ℤ) (d : ℕ) → Tight U (natAbs z * Q) (R (natAbs z * Q) d * d) → Close β p Q z d (N β p Q base digits scale z d)
   close-from z d t = record {
-      by-exact = rw (off-rounding β p Q base digits scale z d) (dist-bound U _ _ _ (t .down-exact) (t .up-exact));
-      by-rounded = rw (off-rounding β p Q base digits scale z d, abs-rounding β p Q base digits scale z d) (dist-bound U _ _ _ (t .down-rounded) (t .up-rounded)) }
+    by-exact = rw (off-rounding β p Q base digits scale z d) (dist-bound U _ _ _ (t .down-exact) (t .up-exact));
+    by-rounded = rw (off-rounding β p Q base digits scale z d, abs-rounding β p Q base digits scale z d) (dist-bound U _ _ _ (t .down-rounded) (t .up-rounded));
+  }
 
   pub whole-close : (z : ℤ) → Close β p Q z Q (N β p Q base digits scale z Q)
   whole-close z = close-from z Q (tight β p base digits (natAbs z * Q) Q _ scale a (λ e. inl (exact e)))
     where
       a : Rounds β p (natAbs z * Q) Q (R (natAbs z * Q) Q)
       a = rounds β p base digits (natAbs z * Q) Q scale
+
       exact : a .e ≡ 0 → R (natAbs z * Q) Q * Q ≡ natAbs z * Q
       exact e = exact-out β p base digits _ Q _ (natAbs z) scale a (ap (λ x. natAbs z * x) (rw (e, pow-zero β) (sym (once Q))))
         where
@@ -113,8 +117,10 @@ module _ (β p Q : ℕ) (base : 2 ≤ β) (digits : 1 ≤ p) (scale : 1 ≤ Q) w
     where
       regroup : (m x y : ℕ) → m * (y * x) ≡ m * x * y
       regroup m x y = omega arith
+
       split : k .e + l .e ≡ q + (k .e + l .e - q)
       split = omega arith
+
       powers : β ^ k .e * β ^ l .e ≡ Q * β ^ (k .e + l .e - q)
       powers = sym (pow-add β (k .e) (l .e)) ∙ ap (λ x. β ^ x) split ∙ pow-add β q (k .e + l .e - q) ∙ ap (λ x. x * β ^ (k .e + l .e - q)) (sym s)
 
@@ -137,10 +143,13 @@ module _ (β p Q : ℕ) (base : 2 ≤ β) (digits : 1 ≤ p) (scale : 1 ≤ Q) w
     where
       t : Tight U (natAbs (a *ℤ b) * Q) (R (natAbs (a *ℤ b) * Q) (Q * Q) * (Q * Q))
       t = large-tight (natAbs (a *ℤ b) * Q) (Q * Q) (mul-pos scale scale) (more-than-H _ big)
+
       some-U : {x : ℕ} → 0 < x → 0 < 2 * x
       some-U h = omega arith
+
       clash : (i x r : ℕ) → i < x → x ≤ r → r ≤ i → ⊥
       clash i x r h k l = omega arith
+
       doubled : 2 * (β ^ k .e * β ^ l .e) ≤ Q
       doubled = le-trans (mul-le-mul-right (β ^ k .e * β ^ l .e) base) (rw s (subst (λ (x : ℕ). x ≤ β ^ q) (pow-succ' β (k .e + l .e) ∙ ap (λ x. β * x) (pow-add β (k .e) (l .e))) (pow-le-pow-right (some-B β p base digits) h)))
 
@@ -151,10 +160,13 @@ module _ (β p Q : ℕ) (base : 2 ≤ β) (digits : 1 ≤ p) (scale : 1 ≤ Q) w
     where
       z : ℕ
       z = w .i * β ^ w .g
+
       r : ℕ
       r = R (n * Q) (Q * Q)
+
       turn : (x y : ℕ) → dist y x ≡ dist x y
       turn x y = omega arith
+
       few : Digits β p (dist z r)
       few = sizes.product-part β p base digits z r (w .i) (w .g) (rounds-whole (n * Q) (Q * Q) z (mul-pos scale scale) (ap (λ x. x * Q) (w .is) ∙ regroup z Q)) refl (w .few)
         where
@@ -164,8 +176,10 @@ module _ (β p Q : ℕ) (base : 2 ≤ β) (digits : 1 ≤ p) (scale : 1 ≤ Q) w
     where
       z : ℕ
       z = w .i * β ^ w .g
+
       r : ℕ
       r = R (suc n * Q) (Q * Q)
+
       few : Digits β p (dist z r)
       few = sizes.product-part β p base digits z r (w .i) (w .g) (rounds-whole (suc n * Q) (Q * Q) z (mul-pos scale scale) (ap (λ x. x * Q) (w .is) ∙ regroup z Q)) refl (w .few)
         where
@@ -177,6 +191,7 @@ module _ (β p Q : ℕ) (base : 2 ≤ β) (digits : 1 ≤ p) (scale : 1 ≤ Q) w
     where
       made : ((e : ℤ) × Number β p e × ((N β p Q base digits scale (a *ℤ b) (Q * Q) +ℤ e) *ℤ pos Q ≡ a *ℤ b)) → Product-part β p Q a b (N β p Q base digits scale (a *ℤ b) (Q * Q))
       made t = record { e = t .0; is-number = t .1; exact = t .2 }
+
       go : Dec (q ≤ k .e + l .e) → Whole β p Q (natAbs (a *ℤ b))
       go (yes h) = whole q s a b k l h
       go (no h) = absurd (too-small q s a b k l (omega arith) (rw (abs-rounding β p Q base digits scale (a *ℤ b) (Q * Q)) at big))

@@ -116,6 +116,7 @@ halves f n a h ha w =
   where
     below : {q r : ℕ} → Places q r → suc r ≤ q
     below P = omega (arith, P .room)
+
     back : (g a : ℤ) → Sum g (negℤ (g -ℤ a)) a
     back g a = omega (arith, neg-is (g -ℤ a), sub-is g a)
 
@@ -139,6 +140,7 @@ grid-floor p n c l h g =
   where
     few : (s p l : ℕ) → s ≤ l → p ≤ l → p + (s - p) ≤ l
     few s p l a b = omega arith
+
     clash : (L g a b M : ℕ) → M ≤ g → g ≤ a → b ≡ a → b ≤ L → M ≡ 2 * L → 0 < L → ⊥
     clash L g a b M h1 h2 h3 h4 h5 h6 = omega arith
 
@@ -204,7 +206,7 @@ product-within k n x v e w =
 pub ready : (f : Format) (n l : ℕ) (a b : Float) → n + (6 + place f) < low f + suc (emax f) → suc (digits f) + suc (digits f) ≤ l → Held f a → Held f b
     → Within (2 ^ n) (value f a) → Within (2 ^ n) (value f b) → T (finite (mul f a b)) → Within (2 ^ n) (value f (mul f a b)) → Over (2 ^ suc l) (value f (mul f a b))
     → (v : ℤ) × (value f a *ℤ value f b ≡ times (2 ^ low f) v) × Nearest (suc (digits f)) v (value f (mul f a b))
-      × Ready (digits f) (place f) (low f) (3 + n) (value f a) (value f (hi f a)) (value f (lo f a)) (value f b) (value f (hi f b)) (value f (lo f b))
+    × Ready (digits f) (place f) (low f) (3 + n) (value f a) (value f (hi f a)) (value f (lo f a)) (value f b) (value f (hi f b)) (value f (lo f b))
 ready f n l a b h L ha hb wa wb t w o =
     let A = value f a in
     let B = value f b in
@@ -219,9 +221,10 @@ ready f n l a b h L ha hb wa wb t w o =
     let lows : low f + (p + p) ≤ i + j = under (low f) (p + p) l (i + j) L lowest in
     let z = quotient (2 ^ low f) (A *ℤ B) (whole-div p i j (low f) A B lows (sa .1 .div) (sb .1 .div)) in
     let N = mul-nearest f a b (z .0) ha hb (z .1) (inl t) .1 in
-    let highest = exponents-high (digits f) i j (low f + suc n) A B (sa .1) (sb .1) (product-within (low f) (suc n) (A *ℤ B) (z .0) (z .1) (exact-le p n (z .0) (value f (mul f a b)) (omega arith) N w)) in
-    (
-      z .0, z .1, N,
+    let highest = exponents-high (digits f) i j (low f + suc n) A B (sa .1) (sb .1) (product-within (low f) (suc n) (A *ℤ B) (z .0) (z .1) (exact-le p n (z .0) (value f (mul f a b)) (omega arith) N w)) in (
+      z .0,
+      z .1,
+      N,
       record {
         i = i;
         j = j;
@@ -236,6 +239,7 @@ ready f n l a b h L ha hb wa wb t w o =
   where
     under : (k p l s : ℕ) → p ≤ l → k + l ≤ s → k + p ≤ s
     under k p l s a b = omega arith
+
     over : (k n s : ℕ) → s ≤ 2 + (k + suc n) → s ≤ k + (3 + n)
     over k n s h = omega arith
 
@@ -268,12 +272,11 @@ two-product-floats f n l a b h L ha hb wa wb t w o =
     let T1 = sub-op f (3 + n) x m11 (omega arith) hx (M11 .held) (within-up n (3 + n) (value f x) (omega arith) w) (M11 .le) in
     let T2 = sub-op f (suc (3 + n)) t1 m21 (omega arith) (T1 .held) (M21 .held) (T1 .le) (within-up (3 + n) (suc (3 + n)) (value f m21) (omega arith) (M21 .le)) in
     let T3 = sub-op f (suc (suc (3 + n))) t2 m12 (omega arith) (T2 .held) (M12 .held) (T2 .le) (within-up (3 + n) (suc (suc (3 + n))) (value f m12) (omega arith) (M12 .le)) in
-    let Y = sub-op f (suc (suc (suc (3 + n)))) m22 t3 (omega arith) (M22 .held) (T3 .held) (within-up (3 + n) (suc (suc (suc (3 + n)))) (value f m22) (omega arith) (M22 .le)) (T3 .le) in
-    (
+    let Y = sub-op f (suc (suc (suc (3 + n)))) m22 t3 (omega arith) (M22 .held) (T3 .held) (within-up (3 + n) (suc (suc (suc (3 + n)))) (value f m22) (omega arith) (M22 .le)) (T3 .le) in (
       Y .held .1,
       two-product-units (digits f) (place f) (low f) (3 + n) (value f a) (value f a1) (value f a2) (value f b) (value f b1) (value f b2) (G .0) (value f x)
-      (ws .0 .v) (value f m11) (ws .1 .v) (value f m21) (ws .2 .v) (value f m12) (ws .3 .v) (value f m22) (value f t1) (value f t2) (value f t3) (value f (sub f m22 t3))
-      (places f) (G .3) (G .1) (G .2) (ws .0 .is) (M11 .near) (ws .1 .is) (M21 .near) (ws .2 .is) (M12 .near) (ws .3 .is) (M22 .near) (T1 .near) (T2 .near) (T3 .near) (Y .near),
+          (ws .0 .v) (value f m11) (ws .1 .v) (value f m21) (ws .2 .v) (value f m12) (ws .3 .v) (value f m22) (value f t1) (value f t2) (value f t3) (value f (sub f m22 t3))
+          (places f) (G .3) (G .1) (G .2) (ws .0 .is) (M11 .near) (ws .1 .is) (M21 .near) (ws .2 .is) (M12 .near) (ws .3 .is) (M22 .near) (T1 .near) (T2 .near) (T3 .near) (Y .near),
     )
   where
     room3 : (n r t : ℕ) → n + (8 + r) < t → 3 + n < t
@@ -290,6 +293,7 @@ error-within p n v x P h N w =
   where
     split : (p n : ℕ) → p ≤ n → suc n ≡ p + suc (n - p)
     split p n h = omega arith
+
     fewer : (p n : ℕ) → n - p ≤ n
     fewer p n = omega arith
 

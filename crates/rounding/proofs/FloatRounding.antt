@@ -50,6 +50,7 @@ units-over f s q k = go (ltb (q * 2 ^ k) (overflow f)) (nltb→le (q * 2 ^ k) (o
     tells : (q : ℕ) → T (finite (odd (suc (prec f)) s q k (low f)))
     tells zero = tt
     tells (suc q) = tt
+
     go : (b : Bool) → (T (not b) → overflow f ≤ q * 2 ^ k) → T (finite (odd (suc (prec f)) s q k (low f))) → T (not (finite (cond b (odd (suc (prec f)) s q k (low f)) (inf s)))) → overflow f ≤ q * 2 ^ k
     go true h i t = absurd (both (finite (odd (suc (prec f)) s q k (low f))) i t)
       where
@@ -62,8 +63,7 @@ pub round-rounds : (f : Format) (s : Bool) (a c N d : ℕ) → 0 < c → 0 < d �
 unfolding rounded
 round-rounds f s a c N d C E h =
     let g : grid f a c ≡ rounded (prec f) N d = rounded-same (prec f) (a * 2 ^ low f) c N d C E h in
-    let i : signed s (grid f a c) ≡ rounding (prec f) (signed s N) d = ap (signed s) g ∙ sym (rounding-signed (prec f) s N d E) in
-    (
+    let i : signed s (grid f a c) ≡ rounding (prec f) (signed s N) d = ap (signed s) g ∙ sym (rounding-signed (prec f) s N d E) in (
       (λ t. value-is f (round f s a c) s (grid f a c) (round-val f s a c (round-under f s a c t)) ∙ i),
       λ t. subst (λ (r : ℤ). overflow f ≤ D.up r + D.down r) i
           (subst (λ (n : ℕ). overflow f ≤ n) (sym (size-signed s (grid f a c)))
@@ -109,6 +109,7 @@ quotient-at f s m e n d hx hy P =
         let i : x * L * (d * B) ≡ A * e * (d * B) = ap (λ (z : ℕ). z * (d * B)) a in
         let j : y * L * (A * e) ≡ B * d * (A * e) = ap (λ (z : ℕ). z * (A * e)) b in
         omega arith
+
     some : (y L B d : ℕ) → y * L ≡ B * d → 0 < B → 0 < d → 0 < y
     some zero L B d b P E = absurd (omega (arith, mul-pos P E, zero-mul L))
     some (suc y) L B d b P E = omega arith
@@ -135,6 +136,7 @@ div-rounds f (fin s m g) (fin false n d) hx hy B P e =
       where
         none : (l M d B : ℕ) → l ≡ M * d → l ≡ 0 → M ≡ B → 0 < B → 0 < d → ⊥
         none l M d B a b c h k = omega (arith, mul-pos {m = M} {n = d} (omega arith) k)
+
     go : (b : Bool) → (T b → n ≡ 0) → Rounds f (rounding (prec f) (signed s (magnitude f (fin s m g)) *ℤ pos (2 ^ low f)) B) (round f (unlike s false) (m * up g * down d) (n * up d * down g))
         → Rounds f (rounding (prec f) (signed s (magnitude f (fin s m g)) *ℤ pos (2 ^ low f)) B) (cond b (cond (eqb m 0) nan (inf (unlike s false))) (round f (unlike s false) (m * up g * down d) (n * up d * down g)))
     go true z r = absurd (no-zero (z tt))

@@ -69,9 +69,9 @@ two-sum-floats f n a b h ha hb la lb =
     let U = sub-op f (2 + n) x z (omega arith) (X .held) (Z .held) (up1 (suc n) (2 + n) x (omega arith) (X .le)) (up1 (suc (suc n)) (2 + n) z (omega arith) (Z .le)) in
     let V = sub-op f (3 + n) a u (omega arith) ha (U .held) (up1 n (3 + n) a (omega arith) la) (up1 (suc (2 + n)) (3 + n) u (omega arith) (U .le)) in
     let W = sub-op f (3 + n) b z (omega arith) hb (Z .held) (up1 n (3 + n) b (omega arith) lb) (up1 (suc (suc n)) (3 + n) z (omega arith) (Z .le)) in
-    let Y = add-op f (4 + n) v w (omega arith) (V .held) (W .held) (up1 (suc (3 + n)) (4 + n) v (omega arith) (V .le)) (up1 (suc (3 + n)) (4 + n) w (omega arith) (W .le)) in
-    (
-      X, Y .held .1,
+    let Y = add-op f (4 + n) v w (omega arith) (V .held) (W .held) (up1 (suc (3 + n)) (4 + n) v (omega arith) (V .le)) (up1 (suc (3 + n)) (4 + n) w (omega arith) (W .le)) in (
+      X,
+      Y .held .1,
       two-sum (digits f) (value f a) (value f b) (value f x) (value f z) (value f u) (value f v) (value f w) (value f (add f v w)) (some-digits f) (value-rep f a ha) (value-rep f b hb) (X .near) (Z .near) (U .near) (V .near) (W .near) (Y .near),
     )
 

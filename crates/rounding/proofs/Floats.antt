@@ -101,8 +101,7 @@ grid-under f s a c N C e (inr (n, h, w)) =
 
 pub round-value : (f : Format) (s : Bool) (a c N : ℕ) → 0 < c → a * 2 ^ low f ≡ N * c → T (finite (round f s a c)) ⊎ In f (signed s N) → Result f (signed s N) (round f s a c)
 round-value f s a c N C e t =
-    let v = round-val f s a c (grid-under f s a c N C e t) in
-    (
+    let v = round-val f s a c (grid-under f s a c N C e t) in (
       finite-of (round f s a c) s (grid f a c) (2 ^ low f) v,
       subst (λ (z : ℤ). Nearest (suc (digits f)) (signed s N) z) (sym (value-is f (round f s a c) s (grid f a c) v)) (grid-nearest f s a c N C e),
     )

@@ -45,6 +45,7 @@ whole-value f n h = let v = round-whole f false n h in ((ofInt-fits f (pos n), y
     yes nan n h = absurd h
     yes (inf s) n h = absurd h
     yes (fin s m e) n h = tt
+
     finer : (x : Float) (n L : ℕ) → HasValue x false n 1 → HasValue x false (n * L) L
     finer nan n L h = h
     finer (inf s) n L h = h
@@ -73,6 +74,7 @@ lift-rounds f U m e a d h u ha hd v =
   where
     some : (m U : ℕ) → m < U → 0 < U - m
     some m U h = omega arith
+
     even : (D U E L : ℕ) → L ≡ U * E → L * D ≡ U * (D * E)
     even D U E L h = let g : L * D ≡ U * E * D = ap (λ (z : ℕ). z * D) h in omega arith
 
@@ -139,6 +141,7 @@ less-exact f m M h =
   where
     fewer : (m U : ℕ) → 0 < m → m < U → U - m < U
     fewer m U a b = omega arith
+
     apart : (L U E m : ℕ) → L ≡ U * E → m < U → pos L -ℤ pos (m * E) ≡ pos ((U - m) * E)
     apart L U E m e h =
         let d = U - m in

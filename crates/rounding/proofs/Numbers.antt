@@ -29,8 +29,10 @@ module _ (B p : ℕ) (base : 2 ≤ B) (digits : 1 ≤ p) where
     where
       parts : j ≡ i + (j - i)
       parts = omega arith
+
       split : B ^ j ≡ B ^ i * B ^ (j - i)
       split = ap (λ x. B ^ x) parts ∙ pow-add B i (j - i)
+
       regroup : (t x y : ℕ) → t * (x * y) ≡ t * y * x
       regroup t x y = omega arith
 
@@ -40,14 +42,17 @@ module _ (B p : ℕ) (base : 2 ≤ B) (digits : 1 ≤ p) where
     where
       few : h .times ≤ B ^ p
       few = le-of-mul-le-mul-right {k = B ^ e} (omega (arith, h .is)) (some-power B e (omega arith))
+
       go : Dec (suc (h .times) ≤ B ^ p) → Digits B p v
       go (yes k) = record { m = h .times; e = e; is = h .is; few = k }
       go (no k) = record { m = B ^ (p - 1); e = suc e; is = h .is ∙ ap (λ x. x * B ^ e) top ∙ rw (H-is B p base digits, pow-succ' B e) (regroup B (B ^ (p - 1)) (B ^ e)); few = rw (H-is B p base digits) (less (B ^ (p - 1)) (some-power B (p - 1) (omega arith))) }
         where
           top : h .times ≡ B ^ p
           top = omega (arith, few)
+
           regroup : (b x y : ℕ) → b * x * y ≡ x * (b * y)
           regroup b x y = omega arith
+
           less : (x : ℕ) → 0 < x → x < B * x
           less x q = omega (arith, mul-le-mul-right x base)
 

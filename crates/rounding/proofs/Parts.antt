@@ -33,8 +33,10 @@ module _ (B p : ℕ) (base : 2 ≤ B) (digits : 1 ≤ p) where
         where
           t : Multiple (B ^ a .e) n
           t = multiple-power B p base digits (a .e) f n k h
+
           exact : r * 1 ≡ n
           exact = exact-out B p base digits n 1 r (t .times) (omega arith) a (t .is ∙ ap (λ x. t .times * x) (sym (one-times (B ^ a .e))))
+
           gone : dist n r ≡ 0
           gone = omega (arith, exact)
       go (no k) = digits-from B p base digits (dist n r) f (multiple-dist (B ^ f) n r h (multiple-power B p base digits f (a .e) r (omega arith) (record { times = a .m; is = a .is }))) (le-trans near l)
@@ -51,12 +53,16 @@ module _ (B p : ℕ) (base : 2 ≤ B) (digits : 1 ≤ p) where
     where
       reach : (w y : ℕ) → dist n y ≤ w → Digits B p y → dist n r ≤ w
       reach w y l k = le-trans (best n r y a k) l
+
       all : (f : ℕ) → Multiple (B ^ f) u → Multiple (B ^ f) v → Multiple (B ^ f) n
       all f x y = ⊎-elim (λ q. subst (Multiple (B ^ f)) (sym q) (multiple-sum (B ^ f) u v x y)) (λ q. subst (Multiple (B ^ f)) (sym q) (multiple-dist (B ^ f) u v x y)) h
+
       by-u : dist n v ≤ u
       by-u = ⊎-elim (λ q. omega arith) (λ q. omega arith) h
+
       by-v : dist n u ≤ v
       by-v = ⊎-elim (λ q. omega arith) (λ q. omega arith) h
+
       go : Dec (b .e ≤ c .e) → Digits B p (dist n r)
       go (yes l) = part n r u (b .e) a (all (b .e) (record { times = b .m; is = b .is }) (multiple-power B p base digits (b .e) (c .e) v l (record { times = c .m; is = c .is }))) (under-own u b) (reach u v by-u c)
       go (no l) = part n r v (c .e) a (all (c .e) (multiple-power B p base digits (c .e) (b .e) u (omega arith) (record { times = b .m; is = b .is })) (record { times = c .m; is = c .is })) (under-own v c) (reach v u by-v b)
@@ -66,6 +72,7 @@ module _ (B p : ℕ) (base : 2 ≤ B) (digits : 1 ≤ p) where
     where
       b : Nearest z (B ^ a .e) (a .m)
       b = subst (λ (x : ℕ). Nearest z x (a .m)) (one-times (B ^ a .e)) (a .near)
+
       half : (z D m : ℕ) → 2 * (m * D) ≤ 2 * z + D → 2 * z ≤ 2 * (m * D) + D → dist z (m * D) ≤ D
       half z D m h k = omega arith
 
@@ -79,6 +86,7 @@ module _ (B p : ℕ) (base : 2 ≤ B) (digits : 1 ≤ p) where
           clash : (x y t i z : ℕ) → z ≡ i * y → i < x * x → x * t ≤ z → x * y ≤ t → 0 < y → ⊥
           clash x y t i z q l h₁ h₂ h₃ = omega (arith, mul-le-mul-left x h₂, mul-le-mul-right y l)
       low-by k w (no m) = omega arith
+
       low : a .e ≤ p + g
       low = go (ℕ-discrete (a .e) 0)
         where

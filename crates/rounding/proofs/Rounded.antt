@@ -37,10 +37,13 @@ exponent-is B (suc tries) n limit h = go (ltb n limit) refl (λ k. exponent-is B
       where
         regroup : (l b x : ℕ) → n < l * b * x → n < l * (b * x)
         regroup l b x k = omega arith
+
         group : (l b x : ℕ) → n < l * (b * x) → n < l * b * x
         group l b x k = omega arith
+
         r : (n < limit * B * B ^ exponent B tries n (limit * B)) × ((k : ℕ) → exponent B tries n (limit * B) ≡ suc k → limit * B * B ^ k ≤ n)
         r = f (group limit B (B ^ tries) (rw (pow-succ' B tries) at h))
+
         least : (k : ℕ) → suc (exponent B tries n (limit * B)) ≡ suc k → limit * B ^ k ≤ n
         least zero z = rw (pow-zero B) (omega (arith, ltb-false n limit e))
         least (suc k) z = rw (pow-succ' B k) (same limit B (B ^ k) (r .1 k (omega arith)))
@@ -70,6 +73,7 @@ tight-by H D m n a b h k = record { up-exact = omega (arith, x, y); down-exact =
   where
     x : H * (2 * (m * D)) ≤ H * (2 * n + D)
     x = mul-le-mul-left H a
+
     y : H * (2 * n) ≤ H * (2 * (m * D) + D)
     y = mul-le-mul-left H b
 
@@ -92,8 +96,10 @@ module _ (B p : ℕ) (base : 2 ≤ B) (digits : 1 ≤ p) where
     where
       e : ℕ
       e = exponent B n n (d * B ^ p)
+
       enough : (l b : ℕ) → 0 < l → n < b → n < l * b
       enough l b k q = omega (arith, mul-le-mul-right b k)
+
       x : (n < d * B ^ p * B ^ e) × ((k : ℕ) → e ≡ suc k → d * B ^ p * B ^ k ≤ n)
       x = exponent-is B n n (d * B ^ p) (enough (d * B ^ p) (B ^ n) (mul-pos h (some-power B p some-B)) (below-power B n base))
 
@@ -140,6 +146,7 @@ module _ (B p : ℕ) (base : 2 ≤ B) (digits : 1 ≤ p) where
     where
       some : {x : ℕ} → 0 < x → 0 < x * B ^ a .e
       some k = mul-pos k (some-power B (a .e) some-B)
+
       widen : (x : ℕ) → n′ * (d * x) ≤ n * (d′ * x)
       widen x = omega (arith, mul-le-mul-right x q)
 
@@ -149,6 +156,7 @@ module _ (B p : ℕ) (base : 2 ≤ B) (digits : 1 ≤ p) where
     where
       order : b .e ≤ a .e
       order = exponent-mono n d n′ d′ r r′ h h′ q a b
+
       go : Dec (a .e ≤ b .e) → r′ ≤ r
       go (yes l) = same-exponent n d n′ d′ r r′ h h′ q a b (le-antisymm order l)
       go (no l) = up (before (a .e) (omega arith))
@@ -158,6 +166,7 @@ module _ (B p : ℕ) (base : 2 ≤ B) (digits : 1 ≤ p) where
             where
               small : r′ ≤ B * H * B ^ k .0
               small = rw (b .is, ← H-is) (mul-le-mul (at-most-digits n′ d′ r′ h′ b) (pow-le-pow-right some-B (omega (arith, k .1))))
+
               large : (m x y b : ℕ) → x ≤ m → b * x * y ≤ m * (b * y)
               large m x y b z = omega (arith, mul-le-mul-right (b * y) z)
 
@@ -171,15 +180,19 @@ module _ (B p : ℕ) (base : 2 ≤ B) (digits : 1 ≤ p) where
     where
       D : ℕ
       D = d * B ^ a .e
+
       value : r * d ≡ a .m * D
       value = ap (λ x. x * d) (a .is) ∙ regroup (a .m) (B ^ a .e) d
         where
           regroup : (m x d : ℕ) → m * x * d ≡ m * (d * x)
           regroup m x d = omega arith
+
       wide : H * D ≤ n → H * D ≤ a .m * D → Tight (2 * H) n (r * d)
       wide k l = rw value (tight-by H D (a .m) n (a .near .not-above) (a .near .not-below) k l)
+
       exact : r * d ≡ n → Tight (2 * H) n (r * d)
       exact q = rw q (record { up-exact = omega arith; down-exact = omega arith; up-rounded = omega arith; down-rounded = omega arith })
+
       above : a .e ≡ 0 → H < r → Tight (2 * H) n (r * d)
       above q k = wide (low (a .near .not-above)) (mul-le-mul-right D (omega (arith, k′)))
         where
@@ -188,10 +201,13 @@ module _ (B p : ℕ) (base : 2 ≤ B) (digits : 1 ≤ p) where
             where
               once : (m : ℕ) → m * 1 ≡ m
               once m = omega arith
+
           k′ : H + 1 ≤ a .m
           k′ = omega (arith, m-is)
+
           low : 2 * (a .m * D) ≤ 2 * n + D → H * D ≤ n
           low z = omega (arith, mul-le-mul-right D k′)
+
       go : Dec (a .e ≡ 0) → Tight (2 * H) n (r * d)
       go (yes q) = ⊎-elim exact (above q) (small q)
       go (no q) = let k = before (a .e) (omega arith) in wide (large n d r (k .0) a (k .1)) (mul-le-mul-right D (at-least n d r (k .0) h a (k .1)))
@@ -202,6 +218,7 @@ module _ (B p : ℕ) (base : 2 ≤ B) (digits : 1 ≤ p) where
     where
       m-is : c .m ≡ t
       m-is = exact-nearest t (d * B ^ c .e) (c .m) (mul-pos h (some-power B (c .e) some-B)) (subst (λ x. Nearest x (d * B ^ c .e) (c .m)) q (c .near))
+
       regroup : (m x d : ℕ) → m * x * d ≡ m * (d * x)
       regroup m x d = omega arith
 
@@ -213,6 +230,7 @@ module _ (B p : ℕ) (base : 2 ≤ B) (digits : 1 ≤ p) where
     where
       regroup : (d B H x : ℕ) → d * (B * H) * x ≡ H * (d * (B * x))
       regroup d B H x = omega arith
+
       shape : d * B ^ p * B ^ k ≡ H * (d * B ^ suc k)
       shape = rw (pow-succ' B k, H-is) (regroup d B H (B ^ k))
 
@@ -221,8 +239,10 @@ module _ (B p : ℕ) (base : 2 ≤ B) (digits : 1 ≤ p) where
     where
       n : ℕ
       n = m * B ^ e * d
+
       c : Rounds B p n d (rounded B p n d)
       c = rounds n d h
+
       go : Dec (c .e ≤ e) → rounded B p n d * d ≡ m * B ^ e * d
       go (yes k) = exact-out n d (rounded B p n d) (m * B ^ (e - c .e)) h c (ap (λ x. m * x * d) split ∙ regroup m (B ^ c .e) (B ^ (e - c .e)) d)
         where
@@ -231,6 +251,7 @@ module _ (B p : ℕ) (base : 2 ≤ B) (digits : 1 ≤ p) where
             where
               parts : (a b : ℕ) → a ≤ b → b ≡ a + (b - a)
               parts a b q = omega arith
+
           regroup : (m x y d : ℕ) → m * (x * y) * d ≡ m * y * (d * x)
           regroup m x y d = omega arith
       go (no k) = up-one (before (c .e) (omega arith))

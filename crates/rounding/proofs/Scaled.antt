@@ -75,8 +75,10 @@ sized q x f h = go (n .at) (n .div) (n .lt) (n .least)
   where
     y : ℤ
     y = times (2 ^ suc q) x
+
     n : Normal q (times (2 ^ suc q) x)
     n = normal q (times (2 ^ suc q) x) (rep-times (suc q) (suc q) x f)
+
     go : (i : ℕ) → Div (2 ^ i) (times (2 ^ suc q) x) → Under (2 ^ (suc q + i)) (times (2 ^ suc q) x) → (i ≡ 0) ⊎ Over (2 ^ (q + i)) (times (2 ^ suc q) x) → (i : ℕ) × Sized q i (times (2 ^ suc q) x)
     go i d u (inr o) = (i, record { div = d; lt = u; ge = o })
     go i d u (inl e) = absurd (small (times (2 ^ suc q) x) (2 ^ (suc q + i)) (2 ^ suc q) u (ap (λ (z : ℕ). 2 ^ (suc q + z)) e ∙ ap (λ (z : ℕ). 2 ^ z) (add-zero (suc q))) (not-zero-times (2 ^ suc q) x h))
@@ -186,8 +188,7 @@ wholes q r k n a a1 a2 b b1 b2 S R =
     let da1 = first-div q r i (times T a) (times T a1) (times T a2) (R .pa) in
     let db1 = first-div q r j (times T b) (times T b1) (times T b2) (R .pb) in
     let la2 = second-le q r i (times T a) (times T a1) (times T a2) S (R .pa) in
-    let lb2 = second-le q r j (times T b) (times T b1) (times T b2) S (R .pb) in
-    (
+    let lb2 = second-le q r j (times T b) (times T b1) (times T b2) S (R .pb) in (
       whole-at p i j k n a1 b1 (R .low) (R .high) da1 db1 (R .pa .le1) (R .pb .le1),
       whole-at p i j k n a2 b1 (R .low) (R .high) (R .pa .div2) db1 la2 (R .pb .le1),
       whole-at p i j k n a1 b2 (R .low) (R .high) da1 (R .pb .div2) (R .pa .le1) lb2,
@@ -221,9 +222,9 @@ module _ (q r k n : ℕ) where
       let T = 2 ^ suc q in
       let P2 = 2 ^ (suc q + suc q) in
       let s : wide x +ℤ wide y ≡ times T a *ℤ times T b = two-product q r (R .i) (R .j) (times T a) (times T a1) (times T a2) (times T b) (times T b1) (times T b2)
-              (wide x) (wide m11) (wide m21) (wide m12) (wide m22) (wide t1) (wide t2) (wide t3) (wide y) P (R .sa) (R .sb) (R .pa) (R .pb)
-              (lifted a b v x e n0) (lifted a1 b1 v11 m11 e11 n11) (lifted a2 b1 v21 m21 e21 n21) (lifted a1 b2 v12 m12 e12 n12) (lifted a2 b2 v22 m22 e22 n22)
-              (less x m11 t1 nt1) (less t1 m21 t2 nt2) (less t2 m12 t3 nt3) (less m22 t3 y ny) in
+      (wide x) (wide m11) (wide m21) (wide m12) (wide m22) (wide t1) (wide t2) (wide t3) (wide y) P (R .sa) (R .sb) (R .pa) (R .pb)
+      (lifted a b v x e n0) (lifted a1 b1 v11 m11 e11 n11) (lifted a2 b1 v21 m21 e21 n21) (lifted a1 b2 v12 m12 e12 n12) (lifted a2 b2 v22 m22 e22 n22)
+      (less x m11 t1 nt1) (less t1 m21 t2 nt2) (less t2 m12 t3 nt3) (less m22 t3 y ny) in
       let u : wide (x +ℤ y) ≡ wide x +ℤ wide y = same-sum (wide x) (wide y) (wide (x +ℤ y)) (times-sum (2 ^ (k + (suc q + suc q))) x y (x +ℤ y) (sum-is x y)) in
       times-back P2 (times (2 ^ k) (x +ℤ y)) (a *ℤ b) (pow-pos (suc q + suc q)) (sym (wide-is (x +ℤ y)) ∙ u ∙ s ∙ fine-product (suc q) a b)
     where

@@ -41,10 +41,13 @@ nearest-neg β p Q z d a h = record { is-number = subst (Digits β p) (sym (abs-
   where
     other : (y : ℤ) → off Q (negℤ z) d y ≡ off Q z d (negℤ y)
     other y = ap (off Q (negℤ z) d) (sym (negℤ-negℤ y)) ∙ off-neg Q z d (negℤ y)
+
     number : (y : ℤ) → Number β p y → Number β p (negℤ y)
     number y k = subst (Digits β p) (sym (abs-neg y)) k
+
     nearer : (y : ℤ) → Number β p y → off Q (negℤ z) d (negℤ a) ≤ off Q (negℤ z) d y
     nearer y k = rw (off-neg Q z d a, other y) (h .none-nearer (negℤ y) (number y k))
+
     even : (y : ℤ) → Number β p y → ¬ (y ≡ negℤ a) → off Q (negℤ z) d y ≡ off Q (negℤ z) d (negℤ a) → Even-significand β p (natAbs (negℤ z) * Q) d (natAbs (negℤ a))
     even y k ne e = rw (abs-neg z, abs-neg a) (h .even-at-tie (negℤ y) (number y k) (λ s. ne (neg-turned y a s)) (sym (other y) ∙ e ∙ off-neg Q z d a))
 
@@ -97,19 +100,23 @@ module _ (β p Q : ℕ) (base : 2 ≤ β) (digits : 1 ≤ p) (scale : 1 ≤ Q) w
     where
       r : ℕ
       r = R (n * Q) d
+
       a : Rounds β p (n * Q) d r
       a = rounds-at (n * Q) d h
+
       from-zero : dist (n * Q) (r * d) ≤ n * Q
       from-zero = plain (n * Q) (r * d) d (closest β p base digits (n * Q) d r 0 h a (digits-zero β p base digits))
         where
           plain : (x y d : ℕ) → dist x y ≤ dist x (0 * d) → dist x y ≤ x
           plain x y d l = omega arith
+
       nearer : (y : ℤ) → Number β p y → off Q (pos n) d (pos r) ≤ off Q (pos n) d y
       nearer (pos y) k = rw (apart (r * d) (n * Q), apart (y * d) (n * Q)) (closest β p base digits (n * Q) d r y h a k)
       nearer (negsuc y) k = rw (apart (r * d) (n * Q), off-across Q n d y) (more (suc y * d) (n * Q) _ from-zero)
         where
           more : (x y z : ℕ) → z ≤ y → z ≤ x + y
           more x y z l = omega arith
+
       even : (y : ℤ) → Number β p y → ¬ (y ≡ pos r) → off Q (pos n) d y ≡ off Q (pos n) d (pos r) → Even-significand β p (n * Q) d r
       even (pos y) k ne e = tie-even β p base digits (n * Q) d r y h a k (λ s. ne (ap pos s)) (sym (apart (y * d) (n * Q)) ∙ e ∙ apart (r * d) (n * Q))
       even (negsuc y) k ne e = absurd (clash (suc y * d) (n * Q) _ (mul-pos (omega arith) h) from-zero (sym (off-across Q n d y) ∙ e ∙ apart (r * d) (n * Q)))
@@ -128,10 +135,13 @@ module _ (β p Q : ℕ) (base : 2 ≤ β) (digits : 1 ≤ p) (scale : 1 ≤ Q) w
     where
       r : ℕ
       r = R (n * Q) d
+
       has-digits : Digits β p r
       has-digits = digits-rounded β p base digits (n * Q) d h
+
       near : dist (n * Q) (y * d) ≤ dist (n * Q) (r * d)
       near = rw (← apart (r * d) (n * Q), ← apart (y * d) (n * Q)) (k .none-nearer (pos r) has-digits)
+
       even : ¬ (r ≡ y) → dist (n * Q) (r * d) ≡ dist (n * Q) (y * d) → Even-significand β p (n * Q) d y
       even ne e = k .even-at-tie (pos r) has-digits (λ s. ne (ap natAbs s)) (apart (r * d) (n * Q) ∙ e ∙ sym (apart (y * d) (n * Q)))
   only-pos n d (negsuc y) h k = absurd (clash (suc y * d) (n * Q) d (mul-pos (omega arith) h) (rw (off-across Q n d y, apart (0 * d) (n * Q)) at (k .none-nearer (pos 0) (digits-zero β p base digits))))
@@ -157,12 +167,14 @@ module _ (β p Q : ℕ) (base : 2 ≤ β) (digits : 1 ≤ p) (scale : 1 ≤ Q) w
     where
       up : (x y : ℕ) → x ≤ y → (pos x) ≤ℤ (pos y)
       up x y l = omega (arith, ints)
+
       down : (x y : ℕ) → (pos x) ≤ℤ (pos y) → x ≤ y
       down x y l = omega (arith, ints)
   monotone (negsuc n) (negsuc n′) d d′ h h′ e = up (R (suc n * Q) d) (R (suc n′ * Q) d′) (mono (suc n′) (suc n) d′ d h′ h (down (suc n * d′) (suc n′ * d) e))
     where
       up : (x y : ℕ) → y ≤ x → (negℤ (pos x)) ≤ℤ (negℤ (pos y))
       up x y l = omega (arith, ints)
+
       down : (x y : ℕ) → (negℤ (pos x)) ≤ℤ (negℤ (pos y)) → y ≤ x
       down x y l = omega (arith, ints)
   monotone (negsuc n) (pos n′) d d′ h h′ e = across (R (suc n * Q) d) (R (n′ * Q) d′)

@@ -122,9 +122,11 @@ over-h q r i a o = go (over-shifted (q + i) r i 0 a (start o))
   where
     E : 2 ^ (q + (suc r + i)) ≡ 2 ^ (q + i + suc r)
     E = ap (λ (t : ℕ). 2 ^ t) (omega arith)
+
     start : Over (2 ^ (q + i)) a → (down a + 2 ^ (q + i) + 0 * 2 ^ i ≤ up a) ⊎ (up a + 2 ^ (q + i) + 0 * 2 ^ i ≤ down a)
     start (inl x) = inl (omega arith)
     start (inr x) = inr (omega arith)
+
     go : (down (times (2 ^ suc r) a) + 2 ^ (q + i + suc r) + 0 * 2 ^ (suc r + i) ≤ up (times (2 ^ suc r) a)) ⊎ (up (times (2 ^ suc r) a) + 2 ^ (q + i + suc r) + 0 * 2 ^ (suc r + i) ≤ down (times (2 ^ suc r) a)) → Over (2 ^ (q + (suc r + i))) (times (2 ^ suc r) a)
     go (inl x) = inl (omega (arith, E))
     go (inr x) = inr (omega (arith, E))
@@ -141,9 +143,11 @@ delta-more q r i a c g d δ fc nc sd nδ o = coarse q (suc r + i) d δ nδ (go (
   where
     E : 2 ^ (q + (suc r + i)) ≡ 2 ^ (q + i + suc r)
     E = ap (λ (t : ℕ). 2 ^ t) (omega arith)
+
     start : (down a + 2 ^ (q + i) + 2 ^ i ≤ up a) ⊎ (up a + 2 ^ (q + i) + 2 ^ i ≤ down a) → (down a + 2 ^ (q + i) + 1 * 2 ^ i ≤ up a) ⊎ (up a + 2 ^ (q + i) + 1 * 2 ^ i ≤ down a)
     start (inl x) = inl (omega arith)
     start (inr x) = inr (omega arith)
+
     go : (down (times (2 ^ suc r) a) + 2 ^ (q + i + suc r) + 1 * 2 ^ (suc r + i) ≤ up (times (2 ^ suc r) a)) ⊎ (up (times (2 ^ suc r) a) + 2 ^ (q + i + suc r) + 1 * 2 ^ (suc r + i) ≤ down (times (2 ^ suc r) a)) → Over (2 ^ (q + (suc r + i))) d
     go (inl x) = inr (omega (arith, E))
     go (inr x) = inl (omega (arith, E))
@@ -165,11 +169,14 @@ delta-least q r i a c g d δ S fc ng sd nδ dh e =
   where
     B : 2 * 2 ^ (q + i + suc r) ≤ 2 ^ (suc q + (q + i))
     B = omega (arith, pow-le (suc (q + i + suc r)) (suc q + (q + i)) (omega arith))
+
     C : 2 ^ (q + i) ≤ 2 ^ (q + i + suc r)
     C = pow-le (q + i) (q + i + suc r) (omega arith)
+
     bound : (up a ≡ down a + 2 ^ (q + i)) ⊎ (down a ≡ up a + 2 ^ (q + i)) → Within (2 ^ (suc q + (q + i))) c
     bound (inl e) = omega (arith, times-is (2 ^ suc r) a, pow-add 2 (q + i) (suc r), B, C, ap (λ (t : ℕ). t * 2 ^ suc r) e)
     bound (inr e) = omega (arith, times-is (2 ^ suc r) a, pow-add 2 (q + i) (suc r), B, C, ap (λ (t : ℕ). t * 2 ^ suc r) e)
+
     power : (up a ≡ down a + 2 ^ (q + i)) ⊎ (down a ≡ up a + 2 ^ (q + i)) → (up (negℤ (times (2 ^ suc r) a)) ≡ up d) × (down (negℤ (times (2 ^ suc r) a)) ≡ down d)
         → (up d ≡ down d + 2 ^ (q + i + suc r)) ⊎ (down d ≡ up d + 2 ^ (q + i + suc r))
     power (inl e) o = inr (omega (arith, neg-is (times (2 ^ suc r) a), times-is (2 ^ suc r) a, pow-add 2 (q + i) (suc r), ap (λ (t : ℕ). t * 2 ^ suc r) e))

@@ -113,25 +113,31 @@ chain q r n m x m11 m21 m12 m22 d1 t1 d2 t2 d3 t3 d4 y S c s1 n1 s2 n2 s3 n3 s4 
     let B = 2 ^ (p + (r + n)) in
     let a1 = exact-step q (q + n) m11 d1 x t1 s1 (c .div11) (c .divx) (bound1 A B (2 ^ (p + (q + n))) m x m11 m21 m12 m22 d1 (c .near) (c .le21) (c .le12) (c .le22) (c .all) s1 (l1 q r n S)) n1 in
     let a2 = exact-step q (suc r + n) m21 d2 t1 t2 s2 (c .div21) (div-down (suc r + n) (q + n) t1 (e1 q r n S) (a1 .0))
-            (bound2 A B (2 ^ (p + (suc r + n))) m x m11 m21 m12 m22 t1 d2 (c .near) (c .le12) (c .le22) (c .all) (a1 .1) s2 (l2 q r n)) n2 in
+    (bound2 A B (2 ^ (p + (suc r + n))) m x m11 m21 m12 m22 t1 d2 (c .near) (c .le12) (c .le22) (c .all) (a1 .1) s2 (l2 q r n)) n2 in
     let a3 = exact-step q n m12 d3 t2 t3 s3 (div-down n (suc r + n) m12 (e2 r n) (c .div12)) (div-down n (suc r + n) t2 (e2 r n) (a2 .0))
-            (bound3 A (2 ^ (p + n)) m x m11 m21 m12 m22 t1 t2 d3 (c .near) (c .le22) (c .all) (a1 .1) (a2 .1) s3 (l3 q n)) n3 in
+    (bound3 A (2 ^ (p + n)) m x m11 m21 m12 m22 t1 t2 d3 (c .near) (c .le22) (c .all) (a1 .1) (a2 .1) s3 (l3 q n)) n3 in
     let s = whole m x m11 m21 m12 m22 t1 t2 t3 d4 (c .all) (a1 .1) (a2 .1) (a3 .1) s4 in
     let a4 = exact-step q n t3 d4 m22 y s4 (a3 .0) (c .div22) (bound4 A (2 ^ (p + n)) m x d4 (c .near) s (l4 q n)) n4 in
     whole m x m11 m21 m12 m22 t1 t2 t3 y (c .all) (a1 .1) (a2 .1) (a3 .1) (a4 .1)
   where
     next : (k l : ℕ) → l ≡ suc k → 2 ^ l ≡ 2 * 2 ^ k
     next k l e = ap (λ (t : ℕ). 2 ^ t) e ∙ pow-succ' 2 k
+
     e1 : (q r n : ℕ) → suc r < q → suc r + n ≤ q + n
     e1 q r n h = omega arith
+
     e2 : (r n : ℕ) → n ≤ suc r + n
     e2 r n = omega arith
+
     l3 : (q n : ℕ) → 2 * 2 ^ (q + n) ≤ 2 ^ (suc q + n)
     l3 q n = omega (arith, next (q + n) (suc q + n) (omega arith))
+
     l4 : (q n : ℕ) → 2 ^ (q + n) ≤ 2 ^ (suc q + n)
     l4 q n = pow-le (q + n) (suc q + n) (omega arith)
+
     l2 : (q r n : ℕ) → 2 * 2 ^ (q + n) + 2 ^ (suc q + (r + n)) ≤ 2 ^ (suc q + (suc r + n))
     l2 q r n = omega (arith, next (q + n) (suc q + n) (omega arith), pow-le (suc q + n) (suc q + (r + n)) (omega arith), next (suc q + (r + n)) (suc q + (suc r + n)) (omega arith))
+
     l1 : (q r n : ℕ) → suc r < q → 2 * 2 ^ (q + n) + 2 * 2 ^ (suc q + (r + n)) ≤ 2 ^ (suc q + (q + n))
     l1 q r n h = omega (arith, l2 q r n, next (suc q + (r + n)) (suc q + (suc r + n)) (omega arith), next (suc q + (suc r + n)) (suc (suc q + (suc r + n))) refl, pow-le (suc (suc q + (suc r + n))) (suc q + (q + n)) (omega arith))
 
@@ -156,8 +162,7 @@ pub parts-rep : (q r i j : ℕ) (a a1 a2 b b1 b2 : ℤ) → Places q r → Parts
     → Rep (suc q) (a1 *ℤ b1) × Rep (suc q) (a2 *ℤ b1) × Rep (suc q) (a1 *ℤ b2) × Rep (suc q) (a2 *ℤ b2)
 parts-rep q r i j a a1 a2 b b1 b2 P A B =
     let p = suc q in
-    let s = suc r in
-    (
+    let s = suc r in (
       rep-in p (s + i + (s + j)) (a1 *ℤ b1) (omega arith) (div-pow (s + i) (s + j) (s + i + (s + j)) a1 b1 (le-refl (s + i + (s + j))) (A .div1) (B .div1))
           (within-pow (p + i) (p + j) (p + (s + i + (s + j))) a1 b1 (omega (arith, P)) (A .le1) (B .le1)),
       rep-in p (i + (s + j)) (a2 *ℤ b1) (omega arith) (div-pow i (s + j) (i + (s + j)) a2 b1 (le-refl (i + (s + j))) (A .div2) (B .div1))
@@ -205,12 +210,12 @@ two-product q r i j a a1 a2 b b1 b2 x m11 m21 m12 m22 t1 t2 t3 y P SA SB A B nx 
     let e12 = exact p (a1 *ℤ b2) m12 (R .2) n12 in
     let e22 = exact p (a2 *ℤ b2) m22 (R .3) n22 in
     let c1 : Chain q r (i + j) (a *ℤ b) x m11 m21 m12 m22 =
-        subst (λ (v : ℤ). Chain q r (i + j) (a *ℤ b) x m11 m21 m12 v) (sym e22)
-        (subst (λ (v : ℤ). Chain q r (i + j) (a *ℤ b) x m11 m21 v (a2 *ℤ b2)) (sym e12)
-        (subst (λ (v : ℤ). Chain q r (i + j) (a *ℤ b) x m11 v (a1 *ℤ b2) (a2 *ℤ b2)) (sym e21)
-        (subst (λ (v : ℤ). Chain q r (i + j) (a *ℤ b) x v (a2 *ℤ b1) (a1 *ℤ b2) (a2 *ℤ b2)) (sym e11) c))) in
+    subst (λ (v : ℤ). Chain q r (i + j) (a *ℤ b) x m11 m21 m12 v) (sym e22)
+    (subst (λ (v : ℤ). Chain q r (i + j) (a *ℤ b) x m11 m21 v (a2 *ℤ b2)) (sym e12)
+    (subst (λ (v : ℤ). Chain q r (i + j) (a *ℤ b) x m11 v (a1 *ℤ b2) (a2 *ℤ b2)) (sym e21)
+    (subst (λ (v : ℤ). Chain q r (i + j) (a *ℤ b) x v (a2 *ℤ b1) (a1 *ℤ b2) (a2 *ℤ b2)) (sym e11) c))) in
     let s : Sum x y (a *ℤ b) = chain q r (i + j) (a *ℤ b) x m11 m21 m12 m22 (x -ℤ m11) t1 (t1 -ℤ m21) t2 (t2 -ℤ m12) t3 (m22 -ℤ t3) y (P .room) c1
-            (sub-is x m11) nt1 (sub-is t1 m21) nt2 (sub-is t2 m12) nt3 (sub-is m22 t3) ny in
+    (sub-is x m11) nt1 (sub-is t1 m21) nt2 (sub-is t2 m12) nt3 (sub-is m22 t3) ny in
     same-in (x +ℤ y) (a *ℤ b) (add-same x y (x +ℤ y) (a *ℤ b) (sum-is x y) s)
   where
     add-same : (x y s m : ℤ) → Sum x y s → Sum x y m → up s + down m ≡ up m + down s

@@ -109,9 +109,9 @@ over-or-under c x =
     elim (cases-lt (up x) (down x + c)) [
       | inr l ↦ inr (inl l)
       | inl g ↦ elim (cases-lt (down x) (up x + c)) [
-          | inr l ↦ inr (inr l)
-          | inl h ↦ inl (omega arith)
-        ]
+        | inr l ↦ inr (inr l)
+        | inl h ↦ inl (omega arith)
+      ]
     ]
 
 normal-from : (q k : ℕ) (x : ℤ) → Div (2 ^ k) x → Under (2 ^ (suc q + k)) x → Normal q x
@@ -143,6 +143,7 @@ rest-rep q a b s x d z w Q i k l h fb n m = go (nb .at) (nb .div) (nb .lt) (nb .
   where
     nb : Normal q b
     nb = normal q b fb
+
     go : (j : ℕ) → Div (2 ^ j) b → Under (2 ^ (suc q + j)) b → (j ≡ 0) ⊎ Over (2 ^ (q + j)) b → Rep (suc q) w
     go zero db u o =
         let f = near-b q 0 a b s x d z w i k l h fb u n m in
@@ -174,7 +175,7 @@ finish p a b x z u v w y fu fv fw fe nu nv nw ny =
     let ev : v ≡ a -ℤ (x -ℤ z) = exact p (a -ℤ (x -ℤ z)) v fv (subst (λ (t : ℤ). Nearest p (a -ℤ t) v) eu nv) in
     let ew : w ≡ b -ℤ z = exact p (b -ℤ z) w fw nw in
     let es : (a +ℤ b) -ℤ x ≡ v +ℤ w = same-in ((a +ℤ b) -ℤ x) (v +ℤ w)
-            (omega (arith, sub-is (a +ℤ b) x, sum-is a b, sum-is v w, sub-is x z, sub-is a (x -ℤ z), sub-is b z, same-out v (a -ℤ (x -ℤ z)) ev, same-out w (b -ℤ z) ew)) in
+    (omega (arith, sub-is (a +ℤ b) x, sum-is a b, sum-is v w, sub-is x z, sub-is a (x -ℤ z), sub-is b z, same-out v (a -ℤ (x -ℤ z)) ev, same-out w (b -ℤ z) ew)) in
     let ey : y ≡ (a +ℤ b) -ℤ x = exact p ((a +ℤ b) -ℤ x) y fe (subst (λ (t : ℤ). Nearest p t y) (sym es) ny) in
     same-in (x +ℤ y) (a +ℤ b) (omega (arith, sum-is x y, sub-is (a +ℤ b) x, same-out y ((a +ℤ b) -ℤ x) ey))
 
@@ -234,24 +235,25 @@ two-sum q a b x z u v w y Q fa fb nx nz nu nv nw ny =
     elim (cases-lt (up a + down a) (up b + down b)) [
       | inr h ↦ with-z q a b x z u v w y fa fb nx (fast q a b s x (x -ℤ a) (sum-is a b) (sub-is x a) fa fb h nx) nz nu nv nw ny
       | inl h ↦ elim (cases-lt (up s + down s) (up a + down a)) [
-          | inl l ↦
-              let e : x ≡ s = exact p s x (small-sum q a b s (sum-is a b) fa fb (omega arith) (omega arith)) nx in
-              let e1 : b ≡ x -ℤ a = same-in b (x -ℤ a) (omega (arith, sub-is x a, sum-is a b, same-out x s e)) in
-              with-z q a b x z u v w y fa fb nx (subst (Rep p) e1 fb) nz nu nv nw ny
-          | inr g ↦
-              let g′ : Below (negℤ a) x = omega (arith, neg-is a, keeps-size p a s x fa nx g) in
-              let d = x -ℤ a in
-              let fz : Rep p (z -ℤ x) = fast q x (negℤ a) d z (z -ℤ x) (sum-is x (negℤ a)) (sub-is z x) (nx .rep) (rep-neg p a fa) g′ nz in
-              let e1 : negℤ (z -ℤ x) ≡ x -ℤ z = same-in (negℤ (z -ℤ x)) (x -ℤ z) (omega (arith, neg-is (z -ℤ x), sub-is z x, sub-is x z)) in
-              let fe : Rep p (d -ℤ z) = error-rep q x (negℤ a) d z (d -ℤ z) (sum-is x (negℤ a)) (sub-is d z) (nx .rep) (rep-neg p a fa) nz in
-              let e2 : negℤ (d -ℤ z) ≡ a -ℤ (x -ℤ z) = same-in (negℤ (d -ℤ z)) (a -ℤ (x -ℤ z)) (omega (arith, neg-is (d -ℤ z), sub-is d z, sub-is x a, sub-is a (x -ℤ z), sub-is x z)) in
-              finish p a b x z u v w y (subst (Rep p) e1 (rep-neg p (z -ℤ x) fz)) (subst (Rep p) e2 (rep-neg p (d -ℤ z) fe))
-              (rest-rep q a b s x d z (b -ℤ z) Q (sum-is a b) (sub-is x a) (sub-is b z) (omega arith) fb nx nz)
-              (error-rep q a b s x (s -ℤ x) (sum-is a b) (sub-is s x) fa fb nx) nu nv nw ny
-        ]
+        | inl l ↦
+            let e : x ≡ s = exact p s x (small-sum q a b s (sum-is a b) fa fb (omega arith) (omega arith)) nx in
+            let e1 : b ≡ x -ℤ a = same-in b (x -ℤ a) (omega (arith, sub-is x a, sum-is a b, same-out x s e)) in
+            with-z q a b x z u v w y fa fb nx (subst (Rep p) e1 fb) nz nu nv nw ny
+        | inr g ↦
+            let g′ : Below (negℤ a) x = omega (arith, neg-is a, keeps-size p a s x fa nx g) in
+            let d = x -ℤ a in
+            let fz : Rep p (z -ℤ x) = fast q x (negℤ a) d z (z -ℤ x) (sum-is x (negℤ a)) (sub-is z x) (nx .rep) (rep-neg p a fa) g′ nz in
+            let e1 : negℤ (z -ℤ x) ≡ x -ℤ z = same-in (negℤ (z -ℤ x)) (x -ℤ z) (omega (arith, neg-is (z -ℤ x), sub-is z x, sub-is x z)) in
+            let fe : Rep p (d -ℤ z) = error-rep q x (negℤ a) d z (d -ℤ z) (sum-is x (negℤ a)) (sub-is d z) (nx .rep) (rep-neg p a fa) nz in
+            let e2 : negℤ (d -ℤ z) ≡ a -ℤ (x -ℤ z) = same-in (negℤ (d -ℤ z)) (a -ℤ (x -ℤ z)) (omega (arith, neg-is (d -ℤ z), sub-is d z, sub-is x a, sub-is a (x -ℤ z), sub-is x z)) in
+            finish p a b x z u v w y (subst (Rep p) e1 (rep-neg p (z -ℤ x) fz)) (subst (Rep p) e2 (rep-neg p (d -ℤ z) fe))
+            (rest-rep q a b s x d z (b -ℤ z) Q (sum-is a b) (sub-is x a) (sub-is b z) (omega arith) fb nx nz)
+            (error-rep q a b s x (s -ℤ x) (sum-is a b) (sub-is s x) fa fb nx) nu nv nw ny
+      ]
     ]
   where
     p : ℕ
     p = suc q
+
     s : ℤ
     s = a +ℤ b

@@ -41,8 +41,17 @@ module _ {P : Type 0} (st : Setting P) (x : ℤ) (y : Cell P) (n : ℕ) (writing
       ∙ sym (getD-map (reading st) L₀ k y no-cell (omega arith))
 
   pub starts : n ≤ length L₀ → (at : Values) (c : Cell P) → at ≡ reading st c → c ≡ getD (y ∷ L₀) n y → Going st x y n n writing L₀ L₀ at
-  starts l at c v e = record { below = omega arith; told = refl; wrote = λ _. row-onto (st .meaning) x (readings st (y ∷ L₀)) n; plain = λ _ i a b d. absurd (omega arith); left = λ _. refl;
-      untouched = refl; beyond = refl; long = refl; reads = v ∙ reads-as L₀ n c l refl e }
+  starts l at c v e = record {
+    below = omega arith;
+    told = refl;
+    wrote = λ _. row-onto (st .meaning) x (readings st (y ∷ L₀)) n;
+    plain = λ _ i a b d. absurd (omega arith);
+    left = λ _. refl;
+    untouched = refl;
+    beyond = refl;
+    long = refl;
+    reads = v ∙ reads-as L₀ n c l refl e;
+  }
 
   shorter : (L : List (Cell P)) (k : ℕ) → take (suc k) L ≡ take (suc k) L₀ → take k L ≡ take k L₀
   shorter L k e = sym (fewer k L) ∙ ap (take k) e ∙ fewer k L₀
@@ -54,7 +63,7 @@ module _ {P : Type 0} (st : Setting P) (x : ℤ) (y : Cell P) (n : ℕ) (writing
 
   -- one turn, at j, where the step answered r
   module _ (inside : n ≤ length L₀) (k j : ℕ) (L : List (Cell P)) (old prior : Values) (c : Cell P) (st′ : Setting P) (at : k ≡ suc j) (same : st′ ≡ st)
-           (so-far : Going st x y n k writing L₀ L old) (read : prior ≡ reading st′ c) (is : c ≡ getD (y ∷ L) j y) where
+      (so-far : Going st x y n k writing L₀ L old) (read : prior ≡ reading st′ c) (is : c ≡ getD (y ∷ L) j y) where
     here : Going st x y n (suc j) writing L₀ L old
     here = subst (λ i. Going st x y n i writing L₀ L old) at so-far
 
@@ -66,27 +75,39 @@ module _ {P : Type 0} (st : Setting P) (x : ℤ) (y : Cell P) (n : ℕ) (writing
 
     pub writes : (new : Cell P) → writing ≡ true → Canonical st′ new → tried st′ (Ok new) ≡ new-cell (st′ .meaning) x old prior → Going st x y n j writing L₀ (set L j new) prior
     writes new w p e = record {
-        below = omega (arith, here .below); told = here .told ∙ outcome-done _ x _ j (reading st new) ok;
-        wrote = λ _. here .wrote w ∙ onto-done _ x _ _ j (reading st new) ok ∙ ap (λ l. onto (st .meaning) x (readings st (y ∷ L₀)) (reading st y ∷ l) j) (sym (map-set (reading st) L j new));
-        plain = λ _ i a b d. at-least i a b d (ℕ-discrete i j);
-        left = λ f. true-false w f;
-        untouched = take-set-le j L j new (omega arith) ∙ shorter L j (here .untouched);
-        beyond = drop-set-lt n L j new (omega (arith, here .below)) ∙ here .beyond;
-        long = length-set L j new ∙ here .long; reads = before-is }
+      below = omega (arith, here .below);
+      told = here .told ∙ outcome-done _ x _ j (reading st new) ok;
+      wrote = λ _. here .wrote w ∙ onto-done _ x _ _ j (reading st new) ok ∙ ap (λ l. onto (st .meaning) x (readings st (y ∷ L₀)) (reading st y ∷ l) j) (sym (map-set (reading st) L j new));
+      plain = λ _ i a b d. at-least i a b d (ℕ-discrete i j);
+      left = λ f. true-false w f;
+      untouched = take-set-le j L j new (omega arith) ∙ shorter L j (here .untouched);
+      beyond = drop-set-lt n L j new (omega (arith, here .below)) ∙ here .beyond;
+      long = length-set L j new ∙ here .long;
+      reads = before-is;
+    }
       where
         ok : done (reading st new) ≡ new-cell (st .meaning) x (cell (readings st (y ∷ L₀)) (suc j)) (cell (readings st (y ∷ L₀)) j)
         ok = ap (λ s. done (reading s new)) (sym same) ∙ e ∙ by-row
 
         here-plain : Canonical st new
         here-plain = subst (λ s. Canonical s new) same p
+
         at-least : (i : ℕ) → j ≤ i → i < n → (d : Cell P) → Dec (i ≡ j) → Canonical st (getD (set L j new) i d)
         at-least i a b d (yes q) = subst (λ (i : ℕ). Canonical st (getD (set L j new) i d)) (sym q) (subst (Canonical st) (sym (getD-set-same L j new d (omega (arith, here .below, here .long)))) here-plain)
         at-least i a b d (no q) = subst (Canonical st) (sym (getD-set-other L j i new d q)) (here .plain w i (omega arith) b d)
 
     pub tries : (new : Cell P) → writing ≡ false → tried st′ (Ok new) ≡ new-cell (st′ .meaning) x old prior → Going st x y n j writing L₀ L prior
     tries new w e = record {
-        below = omega (arith, here .below); told = here .told ∙ outcome-done _ x _ j (reading st new) ok;
-        wrote = λ t. true-false t w; plain = λ t. true-false t w; left = here .left; untouched = shorter L j (here .untouched); beyond = here .beyond; long = here .long; reads = before-is }
+      below = omega (arith, here .below);
+      told = here .told ∙ outcome-done _ x _ j (reading st new) ok;
+      wrote = λ t. true-false t w;
+      plain = λ t. true-false t w;
+      left = here .left;
+      untouched = shorter L j (here .untouched);
+      beyond = here .beyond;
+      long = here .long;
+      reads = before-is;
+    }
       where
         ok : done (reading st new) ≡ new-cell (st .meaning) x (cell (readings st (y ∷ L₀)) (suc j)) (cell (readings st (y ∷ L₀)) j)
         ok = ap (λ s. done (reading s new)) (sym same) ∙ e ∙ by-row

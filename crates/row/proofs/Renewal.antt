@@ -32,18 +32,19 @@ abbrev lone : {P : Type 0} → P → P → Cell P
 lone v z = record { sum = v; correction = z; errors = z }
 
 module _ {P : Type 0} (st : Setting P) (old row : List (Cell P)) (o z : P) (some : 0 < length old) (filled : row ≡ replicate (length old) (lone z z))
-         (o-is : o ≡ st .plain (pos (st .meaning .Q))) (o-reads : st .reads o ≡ pos (st .meaning .Q)) (z-is : z ≡ st .plain (pos 0)) (z-reads : st .reads z ≡ pos 0) where
+    (o-is : o ≡ st .plain (pos (st .meaning .Q))) (o-reads : st .reads o ≡ pos (st .meaning .Q)) (z-is : z ≡ st .plain (pos 0)) (z-reads : st .reads z ≡ pos 0) where
   shape : set row 0 (lone o z) ≡ lone o z ∷ replicate (length old - 1) (lone z z)
   shape = ap (λ r. set r 0 (lone o z)) filled ∙ set-first (length old) (lone z z) (lone o z) some
 
   pub renewed : Renewed st old (set row 0 (lone o z))
   renewed = record {
-      cells = shape
+    cells = shape
         ∙ ap (λ v. lone v z ∷ replicate (length old - 1) (lone z z)) o-is
         ∙ ap (λ v. lone (st .plain (pos (st .meaning .Q))) v ∷ replicate (length old - 1) (lone v v)) z-is
         ∙ ap (λ l. plain-cell st (one-cell (st .meaning)) ∷ l) (sym (map-replicate (plain-cell st) (length old - 1) no-cell));
-      defined = ap (readings st) shape
+    defined = ap (readings st) shape
         ∙ ap (λ l. reading st (lone o z) ∷ l) (map-replicate (reading st) (length old - 1) (lone z z))
         ∙ ap (λ v. record { S = v; C = st .reads z; E = st .reads z } ∷ replicate (length old - 1) (reading st (lone z z))) o-reads
         ∙ ap (λ v. record { S = pos (st .meaning .Q); C = v; E = v } ∷ replicate (length old - 1) (record { S = v; C = v; E = v })) z-reads;
-      long = length-set row 0 (lone o z) ∙ ap length filled ∙ length-replicate (length old) (lone z z) }
+    long = length-set row 0 (lone o z) ∙ ap length filled ∙ length-replicate (length old) (lone z z);
+  }

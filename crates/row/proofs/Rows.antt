@@ -69,8 +69,13 @@ module _ {P : Type 0} (x : ℤ) (n : ℕ) where
 
   pub added-none : (st : Setting P) (y : Cell P) (row last : List (Cell P)) (r : Result (Unit {0}) OutOfRange) → n < length row → y ≡ getD row 0 y → last ≡ tail row → isOk r ≡ false → r ≡ row-outcome st y (tail row) → Added st x n r row (with-tail row last)
   added-none st y row last r h f e s a = let k : with-tail row last ≡ row = kept-row row last (omega arith) e in record {
-      defined = refused-as _ r _ s (a ∙ ap (λ l. outcome (row-after (st .meaning) x (readings st l) n)) (whole y row (omega arith) f));
-      plain = λ o. true-false o s; refused = λ _. k; first = ap (take 1) k; beyond = ap (drop (suc n)) k; long = ap length k }
+    defined = refused-as _ r _ s (a ∙ ap (λ l. outcome (row-after (st .meaning) x (readings st l) n)) (whole y row (omega arith) f));
+    plain = λ o. true-false o s;
+    refused = λ _. k;
+    first = ap (take 1) k;
+    beyond = ap (drop (suc n)) k;
+    long = ap length k;
+  }
 
   added-cons : (st : Setting P) (y : Cell P) (xs last : List (Cell P)) (r : Result (Unit {0}) OutOfRange) → r ≡ row-outcome st y xs → Passed st x y n true xs last → Added st x n r (y ∷ xs) (y ∷ last)
   added-cons st y xs last r e p =
@@ -81,8 +86,8 @@ module _ {P : Type 0} (x : ℤ) (n : ℕ) where
   added-same st y [] last r h f e p = absurd (omega arith)
   added-same st y (c ∷ xs) last r h f e p =
       subst (Added st x n r (c ∷ xs)) (sym (put-tail c xs last)) (added-cons st c xs last r
-        (e ∙ ap (λ l. row-outcome st y l) (tail-of c xs) ∙ ap (λ y. row-outcome st y xs) f)
-        (subst (λ y. Passed st x y n true xs last) f (subst (λ l. Passed st x y n true l last) (tail-of c xs) p)))
+      (e ∙ ap (λ l. row-outcome st y l) (tail-of c xs) ∙ ap (λ y. row-outcome st y xs) f)
+      (subst (λ y. Passed st x y n true xs last) f (subst (λ l. Passed st x y n true l last) (tail-of c xs) p)))
 
   pub added : (st st₁ : Setting P) (y : Cell P) (row last last₂ : List (Cell P)) (r : Result (Unit {0}) OutOfRange) → n < length row → y ≡ getD row 0 y → last ≡ tail row → st₁ ≡ st →
       r ≡ row-outcome st₁ y (tail (with-tail row last)) → Passed st₁ x y n true (tail (with-tail row last)) last₂ → Added st x n r row (with-tail (with-tail row last) last₂)

@@ -29,8 +29,8 @@ abbrev pub outcome : Update → Result (Unit {0}) OutOfRange
 outcome (written row) = Ok tt
 outcome (refused-at j o) = Err (record { order = j; operation = o })
 
--- one pass over the cells that follow the cell y: writing leaves the updated row, its cells as the arithmetic writes them; trying leaves every cell, and the cells past n
--- stay in either case
+-- one pass over the cells that follow the cell y: writing leaves the updated row, its cells as the arithmetic writes them; trying
+-- leaves every cell; the cells past n stay in either case
 pub record Passed {P : Type 0} (st : Setting P) (x : ℤ) (y : Cell P) (n : ℕ) (writing : Bool) (old new : List (Cell P)) : Type 0 where
   pub wrote : writing ≡ true → written (readings st (y ∷ new)) ≡ row-after (st .meaning) x (readings st (y ∷ old)) n
   pub plain : writing ≡ true → (i : ℕ) → i < n → (d : Cell P) → Canonical st (getD new i d)
@@ -43,7 +43,8 @@ abbrev pub update : Result (Unit {0}) OutOfRange → List Values → Update
 update (Ok u) row = written row
 update (Err e) row = refused-at (e .order) (e .operation)
 
--- an addition to the orders 1 to n of a row: as defined, the cells written kept as the arithmetic writes them; refused, every plain cell stays; in any case cell 0 and the cells past n
+-- an addition to the orders 1 to n of a row: as defined, the cells written kept as the arithmetic writes them; refused, every plain
+-- cell stays; in any case cell 0 and the cells past n stay
 pub record Added {P : Type 0} (st : Setting P) (x : ℤ) (n : ℕ) (r : Result (Unit {0}) OutOfRange) (old new : List (Cell P)) : Type 0 where
   pub defined : update r (readings st new) ≡ row-after (st .meaning) x (readings st old) n
   pub plain : isOk r ≡ true → (j : ℕ) → j < n → (d : Cell P) → Canonical st (getD new (suc j) d)

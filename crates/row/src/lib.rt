@@ -23,11 +23,20 @@ pub fn read<A: Arithmetic>(arith: &A, cell: Cell<A::Plain>) -> Numbers<A::Number
     ensures answer { λ r. ⌜ values (A·Arithmetic .value) r ≡ reading (A·Arithmetic .setting (now (arith .entry))) cell ⌝ }
     ensures number { λ r. ⌜ Are-numbers (A·Arithmetic .setting (now (arith .entry)) .meaning) (A·Arithmetic .value) r ⌝ }
 {
-    Numbers { sum: arith.read(cell.sum), correction: arith.read(cell.correction), errors: arith.read(cell.errors) }
+    Numbers {
+        sum: arith.read(cell.sum),
+        correction: arith.read(cell.correction),
+        errors: arith.read(cell.errors),
+    }
 }
 
 // Cell j after the zero x, from the numbers of the old cells j and j − 1, or the number of the operation that left its range.
-fn update<A: Arithmetic>(arith: &mut A, x: A::Number, old: Numbers<A::Number>, before: Numbers<A::Number>) -> Result<Cell<A::Plain>, u8>
+fn update<A: Arithmetic>(
+    arith: &mut A,
+    x: A::Number,
+    old: Numbers<A::Number>,
+    before: Numbers<A::Number>,
+) -> Result<Cell<A::Plain>, u8>
     requires law { ⌜ A·Arithmetic .lawful (now arith) ⌝ }
     requires number { ⌜ IsNumber (A·Arithmetic .setting (now arith) .meaning) (A·Arithmetic .value x) ⌝ }
     requires old { ⌜ Are-numbers (A·Arithmetic .setting (now arith) .meaning) (A·Arithmetic .value) old ⌝ }
@@ -64,7 +73,11 @@ fn update<A: Arithmetic>(arith: &mut A, x: A::Number, old: Numbers<A::Number>, b
     let Some(e) = arith.sum(f, t) else {
         return Err(9);
     };
-    Ok(Cell { sum: arith.plain(s), correction: arith.plain(c), errors: arith.plain(e) })
+    Ok(Cell {
+        sum: arith.plain(s),
+        correction: arith.plain(c),
+        errors: arith.plain(e),
+    })
 }
 
 // The cell of order k in the row that begins with y and goes on with `rest`.
@@ -77,7 +90,14 @@ fn cell_at<P: Copy>(y: Cell<P>, rest: &[Cell<P>], k: usize) -> Cell<P>
 
 // One pass over the orders n down to 1, which stand in `rest`, after the cell y of order 0: it tries them, or writes them where
 // they were tried before. The numbers of cell j − 1 are carried over to the next order, so each cell is read once.
-fn pass<A: Arithmetic>(arith: &mut A, x: A::Number, y: Cell<A::Plain>, rest: &mut [Cell<A::Plain>], n: usize, writing: bool) -> Result<(), OutOfRange>
+fn pass<A: Arithmetic>(
+    arith: &mut A,
+    x: A::Number,
+    y: Cell<A::Plain>,
+    rest: &mut [Cell<A::Plain>],
+    n: usize,
+    writing: bool,
+) -> Result<(), OutOfRange>
     requires law { ⌜ A·Arithmetic .lawful (now arith) ⌝ }
     requires number { ⌜ IsNumber (A·Arithmetic .setting (now arith) .meaning) (A·Arithmetic .value x) ⌝ }
     requires within { ⌜ n ≤ length (now rest) ⌝ }
@@ -100,7 +120,10 @@ fn pass<A: Arithmetic>(arith: &mut A, x: A::Number, y: Cell<A::Plain>, rest: &mu
                     rest[k] = new;
                 }
             }
-            Err(operation) => return Err(OutOfRange { order: k + 1, operation }),
+            Err(operation) => return Err(OutOfRange {
+                order: k + 1,
+                operation,
+            }),
         }
         old = before;
     }
@@ -108,7 +131,12 @@ fn pass<A: Arithmetic>(arith: &mut A, x: A::Number, y: Cell<A::Plain>, rest: &mu
 }
 
 // Adds the zero x to the orders 1 to n of the row. The row is tried whole before a cell is written.
-fn add_tried<A: Arithmetic>(arith: &mut A, x: A::Number, row: &mut [Cell<A::Plain>], n: usize) -> Result<(), OutOfRange>
+fn add_tried<A: Arithmetic>(
+    arith: &mut A,
+    x: A::Number,
+    row: &mut [Cell<A::Plain>],
+    n: usize,
+) -> Result<(), OutOfRange>
     requires law { ⌜ A·Arithmetic .lawful (now arith) ⌝ }
     requires number { ⌜ IsNumber (A·Arithmetic .setting (now arith) .meaning) (A·Arithmetic .value x) ⌝ }
     requires within { ⌜ n < length (now row) ⌝ }
@@ -134,7 +162,12 @@ fn fill<P: Copy>(row: &mut [Cell<P>], c: Cell<P>)
 }
 
 // Adds the zero x as zero number `number`: to the orders 1 to min(number, K), where the row has K + 1 cells.
-pub fn add<A: Arithmetic>(arith: &mut A, x: A::Number, row: &mut [Cell<A::Plain>], number: usize) -> Result<(), OutOfRange>
+pub fn add<A: Arithmetic>(
+    arith: &mut A,
+    x: A::Number,
+    row: &mut [Cell<A::Plain>],
+    number: usize,
+) -> Result<(), OutOfRange>
     requires law { ⌜ A·Arithmetic .lawful (now arith) ⌝ }
     requires number { ⌜ IsNumber (A·Arithmetic .setting (now arith) .meaning) (A·Arithmetic .value x) ⌝ }
     requires some { ⌜ 0 < length (now row) ⌝ }
@@ -153,8 +186,19 @@ fn start<A: Arithmetic>(arith: &A, row: &mut [Cell<A::Plain>], one: A::Plain, ze
     requires zero { ⌜ zero ≡ A·Arithmetic .setting (now arith) .plain (pos 0) ⌝ ∗ ⌜ A·Arithmetic .setting (now arith) .reads zero ≡ pos 0 ⌝ }
     ensures { λ _. ⌜ Renewed (A·Arithmetic .setting (now (arith .entry))) (now (row .entry)) (now (row .exit)) ⌝ }
 {
-    fill(row, Cell { sum: zero, correction: zero, errors: zero });
-    row[0] = Cell { sum: one, correction: zero, errors: zero };
+    fill(
+        row,
+        Cell {
+            sum: zero,
+            correction: zero,
+            errors: zero,
+        },
+    );
+    row[0] = Cell {
+        sum: one,
+        correction: zero,
+        errors: zero,
+    };
 }
 
 // Makes a row new, whatever it held.

@@ -17,8 +17,12 @@ offset-1-2 g c = let h : 1 ≤ length (c .args .row .now) = omega arith in searc
 pub pass-requires : need.pass-requires
 pass-requires g c κs =
     let e = c .pass-trial .ensures in
-    record { law = e .law; number = number-by _ _ _ (e .same) (c .pre .number); within = again-within (pos 0) _ _ _ (c .pre .within) (e .cells .left refl);
-      tried = λ _. again-tried _ _ _ _ _ _ _ (c .pre .within) (e .cells .left refl) (e .same) _ (c .if-is-err .ensures tt .test) (e .answer) }
+    record {
+      law = e .law;
+      number = number-by _ _ _ (e .same) (c .pre .number);
+      within = again-within (pos 0) _ _ _ (c .pre .within) (e .cells .left refl);
+      tried = λ _. again-tried _ _ _ _ _ _ _ (c .pre .within) (e .cells .left refl) (e .same) _ (c .if-is-err .ensures tt .test) (e .answer);
+    }
 
 pub returns-then-is-err : need.returns-then-is-err
 returns-then-is-err g c =

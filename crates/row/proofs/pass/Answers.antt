@@ -25,17 +25,23 @@ pub loop-k-again-then-writing : need.loop-k-again-then-writing
 loop-k-again-then-writing g c =
     let i = c .loop-k .inv in
     let e = c .in-Ok .ensures tt in
-    let at : c .loop-k .k ≡ suc (c .loop-k .k - 1) = omega arith in
-    (writes _ _ _ _ _ _ (c .pre .within) _ _ _ _ _ _ _ at (i .2) (i .0) (c .read-before .ensures .answer) (c .cell-at-c .ensures) _ (c .if-writing .taken) (e .plain) (e .answer),
-     numbers-by _ (i .2) (c .read-before .ensures .number), e .same ∙ i .2, e .law)
+    let at : c .loop-k .k ≡ suc (c .loop-k .k - 1) = omega arith in (
+      writes _ _ _ _ _ _ (c .pre .within) _ _ _ _ _ _ _ at (i .2) (i .0) (c .read-before .ensures .answer) (c .cell-at-c .ensures) _ (c .if-writing .taken) (e .plain) (e .answer),
+      numbers-by _ (i .2) (c .read-before .ensures .number),
+      e .same ∙ i .2,
+      e .law,
+    )
 
 pub loop-k-again : need.loop-k-again
 loop-k-again g c =
     let i = c .loop-k .inv in
     let e = c .in-Ok .ensures tt in
-    let at : c .loop-k .k ≡ suc (c .loop-k .k - 1) = omega arith in
-    (tries _ _ _ _ _ _ (c .pre .within) _ _ _ _ _ _ _ at (i .2) (i .0) (c .read-before .ensures .answer) (c .cell-at-c .ensures) _ (c .if-writing .left) (e .answer),
-     numbers-by _ (i .2) (c .read-before .ensures .number), e .same ∙ i .2, e .law)
+    let at : c .loop-k .k ≡ suc (c .loop-k .k - 1) = omega arith in (
+      tries _ _ _ _ _ _ (c .pre .within) _ _ _ _ _ _ _ at (i .2) (i .0) (c .read-before .ensures .answer) (c .cell-at-c .ensures) _ (c .if-writing .left) (e .answer),
+      numbers-by _ (i .2) (c .read-before .ensures .number),
+      e .same ∙ i .2,
+      e .law,
+    )
 
 pub returns : need.returns
 returns g c =

@@ -29,7 +29,12 @@ returns-in-Break-add g c =
     record {
       called = called-as _ (told-err told-added (λ e. refl) _ _ (c .from-residual-in-Break-add .ensures .1)) (add-5 _ (g .A·Arithmetic·met .rules _ (c .pre .law)) _ _ _ (c .in-Continue-x .ensures tt .answer) (omega arith) (omega (arith, c .pre .next)) (c .if-not-fits .ensures tt) _ (ap (λ i. min i (length (c .args .self .now .row .now) - 1)) (c .pre .next)) _ _ (e .cells .defined) _ (ap (readings st) (e .cells .refused refl)));
       cells = leaves-all _ _ _ _ _ (ap accepted (told-err told-added (λ e. refl) _ _ (c .from-residual-in-Break-add .ensures .1))) (e .cells .refused refl);
-      keeps = keeps-long st _ _ (c .pre .standing) refl (e .cells .long) (c .pre .standing .few-held) (c .pre .standing .few-out); counts = refl; lender = refl; same = e .same; law = e .law }
+      keeps = keeps-long st _ _ (c .pre .standing) refl (e .cells .long) (c .pre .standing .few-held) (c .pre .standing .few-out);
+      counts = refl;
+      lender = refl;
+      same = e .same;
+      law = e .law;
+    }
 
 pub returns : need.returns
 returns g c =
@@ -38,4 +43,9 @@ returns g c =
     record {
       called = add-ok _ (g .A·Arithmetic·met .rules _ (c .pre .law)) _ _ _ (c .in-Continue-x .ensures tt .answer) (omega arith) (omega (arith, c .pre .next)) (c .if-not-fits .ensures tt) _ (ap (λ i. min i (length (c .args .self .now .row .now) - 1)) (c .pre .next)) _ (e .cells .defined) _ (c .pre .next);
       cells = leaves-others _ _ _ _ _ (ap (λ i. min i (length (c .args .self .now .row .now) - 1)) (c .pre .next)) (e .cells .first) (e .cells .beyond) (e .cells .plain refl);
-      keeps = keeps-long st _ _ (c .pre .standing) refl (e .cells .long) (omega arith) (c .pre .standing .few-out); counts = refl; lender = refl; same = e .same; law = e .law }
+      keeps = keeps-long st _ _ (c .pre .standing) refl (e .cells .long) (omega arith) (c .pre .standing .few-out);
+      counts = refl;
+      lender = refl;
+      same = e .same;
+      law = e .law;
+    }

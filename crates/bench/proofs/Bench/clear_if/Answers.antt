@@ -11,5 +11,10 @@ returns-then-not-free g c = record { called = clear-2 _ (g .A·Arithmetic·met .
 pub returns : need.returns
 returns g c =
     let e = c .renew .ensures in
-    record { called = clear-ok _ (g .A·Arithmetic·met .rules _ (c .pre .law)) _ (sym (c .pre .free) ∙ c .if-not-free .left) _ (e .defined); cells = clearing-done _ _ _ (e .cells);
-      keeps = keeps-long _ _ _ (c .pre .standing) refl (e .long) (omega arith) (c .pre .standing .few-out); counts = refl; lender = refl }
+    record {
+      called = clear-ok _ (g .A·Arithmetic·met .rules _ (c .pre .law)) _ (sym (c .pre .free) ∙ c .if-not-free .left) _ (e .defined);
+      cells = clearing-done _ _ _ (e .cells);
+      keeps = keeps-long _ _ _ (c .pre .standing) refl (e .long) (omega arith) (c .pre .standing .few-out);
+      counts = refl;
+      lender = refl;
+    }

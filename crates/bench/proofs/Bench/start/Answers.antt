@@ -16,4 +16,5 @@ returns g c =
       cells = e .cells;
       standing = record { some-cells = omega (arith, c .pre .cells, e .long); few-cells = omega (arith, c .pre .few, e .long); few-held = omega arith; few-out = omega arith };
       lender = refl;
-      book = book-law }
+      book = book-law;
+    }
