@@ -1,4 +1,4 @@
-// The lines that are printed, one for each call.
+// The lines that are printed.
 use bench::refusal::Refusal;
 use bench::refusal::RefusalDisplay;
 use closing::verdict::Verdict;

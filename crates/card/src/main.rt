@@ -1,5 +1,5 @@
-// A card is one filter, given by its zeros. This program works the card with the zeros 1, 2 and 3 in binary64 on a bench of highest order 3,
-// asks its coefficients, marks some claims, and prints a line for each call.
+// A card is one filter, given by its zeros. This program works the card with the zeros 1, 2 and 3 in binary64 on a bench of highest
+// order 3, asks its coefficients, marks some claims, and prints a line for each addition, asking, marking and clearing.
 ghost use mathlib.Core.Path.{_≡_};
 ghost use Prim.Native.Nat.{_<_};
 ghost use Rattle.bench.specs.Benches.{Standing};
