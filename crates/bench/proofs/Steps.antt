@@ -132,17 +132,8 @@ module _ (b : Making) (R : Rules (b .meaning)) (s : State) where
       mark-by-numbers T T-is t e = e ∙ ap (mark-tolerance b s n k q) T-is ∙ ap (λ a. mark-admitted b s n k a (b .meaning .admit tolerance)) q-is
 
   module _ (n k : ℕ) (q T : ℤ) where
-    pub numbers-10 : question-out n (b .bench-number) (s .out) ≡ false → record { answer = refused 10 []; then = s } ≡ mark-numbers b s n k q T
-    numbers-10 h = sym (passed _ _ _ h)
-
     module _ (out : question-out n (b .bench-number) (s .out) ≡ true) where
-      pub numbers-refused : (r : Refusal) → Err r ≡ order-outcome (b .K) (s .held) k → record { answer = told-refusal r; then = s } ≡ mark-numbers b s n k q T
-      numbers-refused r e = sym (taken _ _ _ out ∙ order-refused k _ r e)
-
       module _ (order : Ok tt ≡ order-outcome (b .K) (s .held) k) where
-        pub numbers-11 : false ≡ leZ (pos 0) T → record { answer = refused 11 []; then = s } ≡ mark-numbers b s n k q T
-        numbers-11 f = sym (taken _ _ _ out ∙ order-passed k _ order ∙ passed _ _ _ (sym f))
-
         module _ (f : true ≡ leZ (pos 0) T) (c : Values) (i : c ≡ cell (s .row) k) where
           on : (v : Trial Closed) → v ≡ close (b .meaning) c (s .held) k → mark-numbers b s n k q T ≡ mark-closed b s q T v
           on v e = taken _ _ _ out ∙ order-passed k _ order ∙ taken _ _ _ (sym f) ∙ ap (mark-closed b s q T) (ap (λ c. close (b .meaning) c (s .held) k) (sym i) ∙ sym e)
