@@ -1,4 +1,6 @@
 // What an arithmetic is: the trait that a binary or decimal format implements, and over which the bench is written once.
+#![tactic(auto)]
+
 ghost use Rattle.std.specs.Prelude.{◌≡◌, ◌≤◌, ℤ, pos, neg_ℤ, int_le};
 ghost use Rattle.arithmetic.specs.Meaning.{Number as IsNumber};
 ghost use Rattle.arithmetic.specs.Operations.{in_limits, sum as rounded_sum, product as rounded_product, sum_split, product_split, lift as lifted, grain as grain_of, size as size_of};

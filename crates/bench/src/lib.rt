@@ -1,5 +1,7 @@
 // A bench over a lent row of cells: whether a row will do, making, and its six calls, adding, clearing, asking, issuing, marking and
 // withdrawing. Generic over the arithmetic, which is handed to each call.
+#![tactic(auto)]
+
 ghost use Rattle.std.specs.Prelude.{◌≡◌, suc, ◌-◌, ◌<◌, ◌≤◌, min, map, length, ◌==◌, slice_index_or};
 ghost use Rattle.coefficients.specs.Row.{new_row};
 ghost use Rattle.coefficients.specs.Calls.{row_refusal, new_bench, step, mark_numbers, add as add_call, clear as clear_call, ask as ask_call, issue as issue_call, mark as mark_call, withdraw as withdraw_call};

@@ -1,4 +1,6 @@
 // Binary64 as an arithmetic: IEEE 754 doubles at most 2^900 in size, every operation rounded once to nearest, ties to even.
+#![tactic(auto)]
+
 ghost use Rattle.binary64.specs.Patterns.{setting as setting_of};
 ghost use Rattle.binary64.specs.Doubles.{units};
 ghost use Rattle.binary64.specs.TheRules;

@@ -1,5 +1,7 @@
 // A card is one filter, given by its zeros. This program works the card with the zeros 1, 2 and 3 in binary64 on a bench of highest
 // order 3, asks its coefficients, marks some claims, and prints a line for each addition, asking, marking and clearing.
+#![tactic(auto)]
+
 ghost use Rattle.std.specs.Prelude.{◌≡◌, ◌<◌};
 ghost use Rattle.bench.specs.Benches.{Standing};
 

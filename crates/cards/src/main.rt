@@ -3,6 +3,8 @@
 // A line `card binary64 3` or `card decimal 3` opens a card of highest order 3. Its lines are `add X = 1`, with the number of the zero; `ask 2 = V B`, with the
 // value and the bound; `mark 1 C T = right`, `wrong` or `open`, with a claim and a tolerance. A refused call has `R`, the number of the
 // refusal and its details. Lines that begin with `#` are comments.
+#![tactic(auto)]
+
 ghost use Rattle.std.specs.Prelude.{◌≡◌, ◌≤◌, length};
 ghost use Rattle.bench.specs.Benches.{Standing};
 

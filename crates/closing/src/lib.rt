@@ -1,4 +1,6 @@
 // Closing an order of a row to its value and error bound, and the verdict on a claim. Generic over the arithmetic.
+#![tactic(auto)]
+
 ghost use Rattle.std.specs.Prelude.{◌≡◌, ◌≤◌, int_lt};
 ghost use Rattle.arithmetic.specs.Meaning.{Number as IsNumber};
 ghost use Rattle.coefficients.specs.Exact.{signed};

@@ -1,4 +1,6 @@
 // What the programs share that compare answers with those of outside libraries: words that are read, and scores.
+#![tactic(auto)]
+
 ghost use Rattle.std.specs.Prelude.{◌≡◌};
 ghost use Rattle.comparison.specs.Words.{digit_value, byte_value, Reads, Counts};
 

@@ -1,4 +1,6 @@
 // Decimal as an arithmetic: the numbers of d digits at most 10^40 in size, with the operations of the crate `scientific`.
+#![tactic(auto)]
+
 ghost use Rattle.std.specs.Prelude.{◌≡◌, ◌≤◌};
 ghost use Rattle.scientific.specs.Patterns.{setting as setting_of};
 ghost use Rattle.scientific.specs.Numbers.{units};

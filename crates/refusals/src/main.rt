@@ -1,4 +1,6 @@
 // Shows each refusal that a bench can give, by its number and details, in binary64.
+#![tactic(auto)]
+
 ghost use Rattle.std.specs.Prelude.{◌≡◌, ◌+◌, ◌<◌};
 ghost use Rattle.bench.specs.Benches.{Standing};
 

@@ -1,4 +1,6 @@
 // The row of a bench: reading a cell, adding one zero, and making the row new. Generic over the arithmetic.
+#![tactic(auto)]
+
 ghost use Rattle.std.specs.Prelude.{◌≡◌, ◌-◌, ◌<◌, ◌≤◌, min, true, ◌∷◌, length, replicate, pos, Ok, slice_index_or};
 ghost use Rattle.arithmetic.specs.Meaning.{Number as IsNumber};
 ghost use Rattle.coefficients.specs.Row.{new_cell, row_after};

@@ -1,5 +1,7 @@
 // Numbers in scientific notation, M × 10^e with up to eight digits, and their operations: every sum, product and lift is rounded once to
 // d digits, to nearest, ties to even.
+#![tactic(auto)]
+
 ghost use Rattle.scientific.specs.Ties.{TiesToEvenM};
 
 pub mod bytes;

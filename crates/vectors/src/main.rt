@@ -3,6 +3,8 @@
 // A line `binary64` or `decimal` opens a section. Its lines are `sum A B = R E` and `product A B = R E`, with the rounded result and its error part;
 // `lift A m = R`; `admit A = N`; `at_most A B = yes` or `no`. A refused operation has `-` for its results, a pattern that is not admitted
 // `!` and the number of the cause. Lines that begin with `#` are comments.
+#![tactic(auto)]
+
 use answer::Answer;
 use binary64::Binary64;
 use decimal::Decimal;
