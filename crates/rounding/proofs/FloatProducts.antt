@@ -18,7 +18,7 @@ use Rattle.rounding.specs.ErrorFree.{splitter, place, hi, lo, tail}
 use Rattle.rounding.proofs.BinaryNearest.{Near, half, Nearest, Within, Over, times, times_is, keeps_within, keeps_pow, cases_size}
 use Rattle.rounding.proofs.TwoSum.{Sum, sub_is, over_size, size_over}
 use Rattle.rounding.proofs.Split.{pow_le, Parts}
-use Rattle.rounding.proofs.TwoProduct.{Sized, Places, size-le, size_mul}
+use Rattle.rounding.proofs.TwoProduct.{Sized, Places, size_le, size_mul}
 use Rattle.rounding.proofs.ModelNearest.{nearest_neg}
 use Rattle.rounding.proofs.Floats.{digits, Held, value_rep, value_is, value_size, prec_is, mul_nearest, round_under, round_val, size_signed, own}
 use Rattle.rounding.proofs.FloatSums.{Op, within_up, sub_op, left_within}
@@ -64,7 +64,7 @@ factor_within f n a w = go (place f)
     go : (r : ℕ) → Within (2 ^ (n + (2 + r))) (a +ℤ times (2 ^ suc r) a)
     go r =
         let S = 2 ^ suc r in
-        let l : (D.up a + D.down a) * S ≤ 2 ^ n * S = mul-le-mul_right S (size-le (2 ^ n) a w) in
+        let l : (D.up a + D.down a) * S ≤ 2 ^ n * S = mul-le-mul_right S (size_le (2 ^ n) a w) in
         let e : 2 ^ (n + (2 + r)) ≡ 2 * (2 ^ n * S) = ap (λ (z : ℕ). 2 ^ z) (shift n r) ∙ pow-succ' 2 (n + suc r) ∙ ap (λ (z : ℕ). 2 * z) (pow-add 2 n (suc r)) in
         let m : 2 ^ n ≤ 2 ^ n * S = le-mul_of_pos_right (2 ^ n) (pow_pos (suc r)) in
         omega (arith, sum_is_lem a (times S a), times_is S a)
@@ -195,7 +195,7 @@ some_size c a b C o =
 
 product_within : (k n : ℕ) (x v : ℤ) → x ≡ times (2 ^ k) v → Within (2 ^ n) v → Within (2 ^ (k + n)) x
 product_within k n x v e w =
-    let l : (D.up v + D.down v) * 2 ^ k ≤ 2 ^ n * 2 ^ k = mul-le-mul_right (2 ^ k) (size-le (2 ^ n) v w) in
+    let l : (D.up v + D.down v) * 2 ^ k ≤ 2 ^ n * 2 ^ k = mul-le-mul_right (2 ^ k) (size_le (2 ^ n) v w) in
     subst (Within (2 ^ (k + n))) (sym e) (omega (arith, size_times (2 ^ k) v, pow-add 2 k n))
 
 pub ready : (f : Format) (n l : ℕ) (a b : Float) → n + (6 + place f) < low f + suc (emax f) → suc (digits f) + suc (digits f) ≤ l → Held f a → Held f b
@@ -302,7 +302,7 @@ tail_within f n l a b h L N ha hb wa wb t w o =
     let s = (two_product_floats f n l a b h L ha hb wa wb t w o).1 in
     let e : x +ℤ y ≡ G.0 = times_back (2 ^ low f) (x +ℤ y) G.0 (pow_pos (low f)) (s ∙ G.1) in
     let z = error_within (suc (digits f)) n G.0 x (omega arith) N G.2 w in
-    le_trans (le_of_eq (sym (value_size f (tail f a b (mul f a b))))) (size-le (2 ^ n) y (left_within (2 ^ n) x y (x +ℤ y) G.0 (sum_is_lem x y) e z))
+    le_trans (le_of_eq (sym (value_size f (tail f a b (mul f a b))))) (size_le (2 ^ n) y (left_within (2 ^ n) x y (x +ℤ y) G.0 (sum_is_lem x y) e z))
   where
     less : (n r t : ℕ) → n + (8 + r) < t → n + (6 + r) < t
     less n r t h = omega arith
