@@ -5,4 +5,4 @@ use Rattle.binary64.specs.TheRules.{admit_is}
 use Rattle.binary64.proofs.bytes.admit.Goals as goal
 
 pub returns : goal.returns
-returns c = record { answer = c.checked.ensures.answer ∙ ap admission c.from-be-bytes.ensures ∙ sym (admit_is _); number = c.checked.ensures.number }
+returns c = record { answer = c.checked.ensures.answer ∙ ap admission c.from_be_bytes.ensures ∙ sym (admit_is _); number = c.checked.ensures.number }

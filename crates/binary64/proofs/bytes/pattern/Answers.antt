@@ -5,4 +5,4 @@ use Rattle.binary64.specs.TheRules.{pattern_is}
 use Rattle.binary64.proofs.bytes.pattern.Goals as goal
 
 pub returns : goal.returns
-returns c = c.to-be-bytes.ensures ∙ ap bytes c.plain.ensures.answer ∙ sym (pattern_is _)
+returns c = c.to_be_bytes.ensures ∙ ap bytes c.plain.ensures.answer ∙ sym (pattern_is _)

@@ -8,14 +8,14 @@ use Rattle.binary64.specs.TheMeans.{is_number}
 use Rattle.binary64.specs.Fields.{no_nan_bits, bits_fine, bits_yes, bits_large, bits_infinite, reads_number, reads_none}
 use Rattle.binary64.proofs.bytes.read.Goals as goal
 
-pub float-from-bits-result : goal.float-from-bits-result
-float-from-bits-result c = no_nan_bits c.args.bits (search rules)
+pub float_from_bits-result : goal.float_from_bits-result
+float_from_bits-result c = no_nan_bits c.args.bits (search rules)
 
-pub invariant-of-result : goal.invariant-of-result
-invariant-of-result c = let t = bits_fine c.args.bits (search rules) (search rules) in (t.1, (t.2, tt))
+pub invariant_of-result : goal.invariant_of-result
+invariant_of-result c = let t = bits_fine c.args.bits (search rules) (search rules) in (t.1, (t.2, tt))
 
-pub returns-then-bits-le-HIGH-BITS : goal.returns-then-bits-le-HIGH-BITS
-returns-then-bits-le-HIGH-BITS c =
+pub returns-then-bits-le-HIGH_BITS : goal.returns-then-bits-le-HIGH_BITS
+returns-then-bits-le-HIGH_BITS c =
     let b = c.args.bits in
     record { answer = reads_number b _ (bits_yes b (search rules) (search rules)); number = is_number (of_bits binary64 b) (bits_fine b (search rules) (search rules)) }
 

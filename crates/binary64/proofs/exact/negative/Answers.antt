@@ -6,8 +6,8 @@ use Rattle.binary64.proofs.ExactFloats.{neg_fine}
 use Rattle.std.proofs.Common.{rules}
 use Rattle.binary64.proofs.exact.negative.Goals as goal
 
-pub invariant-of-result : goal.invariant-of-result
-invariant-of-result c = let a = c.args.a in let n = neg_fine a.x (search rules, a.number, a.small) in (n.1, (n.2, tt))
+pub invariant_of-result : goal.invariant_of-result
+invariant_of-result c = let a = c.args.a in let n = neg_fine a.x (search rules, a.number, a.small) in (n.1, (n.2, tt))
 
 pub returns : goal.returns
 returns c = let a = c.args.a in record { answer = value_neg binary64 a.x; number = is_number (neg a.x) (neg_fine a.x (search rules, a.number, a.small)) }

@@ -4,8 +4,8 @@ use Rattle.binary64.specs.TheMeans.{is_number}
 use Rattle.binary64.proofs.ExactFloats.{one_fine, one_value}
 use Rattle.binary64.proofs.exact.one.Goals as goal
 
-pub invariant-of-result : goal.invariant-of-result
-invariant-of-result c = (one_fine.1, (one_fine.2, tt))
+pub invariant_of-result : goal.invariant_of-result
+invariant_of-result c = (one_fine.1, (one_fine.2, tt))
 
 pub returns : goal.returns
 returns c = record { answer = one_value; number = is_number (of_bits binary64 4607182418800017408) one_fine }

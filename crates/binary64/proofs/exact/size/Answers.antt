@@ -8,14 +8,14 @@ use Rattle.binary64.specs.Fields.{no_nan_bits}
 use Rattle.binary64.proofs.ExactFloats.{size_bits, size_fine, size_value}
 use Rattle.binary64.proofs.exact.size.Goals as goal
 
-pub float-to-bits-result : goal.float-to-bits-result
-float-to-bits-result c = finite_no_nan c.args.a.x c.args.a.number
+pub float_to_bits-result : goal.float_to_bits-result
+float_to_bits-result c = finite_no_nan c.args.a.x c.args.a.number
 
-pub float-from-bits-result : goal.float-from-bits-result
-float-from-bits-result c = let a = c.args.a in let h = size_bits a.x (search rules, a.number, a.small) in no_nan_bits (to_bits binary64 a.x % sign_bit) (omega (arith, h))
+pub float_from_bits-result : goal.float_from_bits-result
+float_from_bits-result c = let a = c.args.a in let h = size_bits a.x (search rules, a.number, a.small) in no_nan_bits (to_bits binary64 a.x % sign_bit) (omega (arith, h))
 
-pub invariant-of-result : goal.invariant-of-result
-invariant-of-result c = let a = c.args.a in let s = size_fine a.x (search rules, a.number, a.small) in (s.1, (s.2, tt))
+pub invariant_of-result : goal.invariant_of-result
+invariant_of-result c = let a = c.args.a in let s = size_fine a.x (search rules, a.number, a.small) in (s.1, (s.2, tt))
 
 pub returns : goal.returns
 returns c =

@@ -4,8 +4,8 @@ use Rattle.binary64.specs.TheMeans.{is_number}
 use Rattle.binary64.specs.Written.{nil_fine, nil_value}
 use Rattle.binary64.proofs.exact.zero.Goals as goal
 
-pub invariant-of-result : goal.invariant-of-result
-invariant-of-result c = (nil_fine.1, (nil_fine.2, tt))
+pub invariant_of-result : goal.invariant_of-result
+invariant_of-result c = (nil_fine.1, (nil_fine.2, tt))
 
 pub returns : goal.returns
 returns c = record { answer = nil_value; number = is_number (of_bits binary64 0) nil_fine }

@@ -11,8 +11,8 @@ use Rattle.binary64.specs.TheMeans.{is_number}
 use Rattle.binary64.proofs.GrainFloats.{grain_value, grain_fine}
 use Rattle.binary64.proofs.lifting.grain.Goals as goal
 
-pub invariant-of-result : goal.invariant-of-result
-invariant-of-result c =
+pub invariant_of-result : goal.invariant_of-result
+invariant_of-result c =
     let g = grain_fine c.args.k c.requires.few in
     (ap finite c.grain.ensures ∙ g.1, (subst Small (sym c.grain.ensures) g.2, tt))
 

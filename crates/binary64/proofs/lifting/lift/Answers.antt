@@ -13,11 +13,11 @@ use Rattle.binary64.proofs.GrainFloats.{lift_rounded, lift_no_nan}
 use Rattle.binary64.proofs.LiftAnswers.{lift_yes, lift_no, lift_nil}
 use Rattle.binary64.proofs.lifting.lift.Goals as goal
 
-pub in-range-requires : goal.in-range-requires
-in-range-requires c = subst (λ (x : Float). T (not (is_nan x))) (sym c.quotient-x.ensures) (lift_no_nan c.args.a.x c.args.k c.args.a.number c.requires.few)
+pub in_range-requires : goal.in_range-requires
+in_range-requires c = subst (λ (x : Float). T (not (is_nan x))) (sym c.quotient-x.ensures) (lift_no_nan c.args.a.x c.args.k c.args.a.number c.requires.few)
 
-pub returns-then-in-range : goal.returns-then-in-range
-returns-then-in-range c =
+pub returns-then-in_range : goal.returns-then-in_range
+returns-then-in_range c =
     let a = c.args.a in
     let k = c.args.k in
     let x = c.quotient-x.result in
@@ -25,8 +25,8 @@ returns-then-in-range c =
     let r = subst (Rounds binary64 (rounding 53 (value binary64 a.x *ℤ pos (2 ^ 53)) (2 ^ 53 - k))) (sym c.quotient-x.ensures) (lift_rounded a.x k (held binary64 a.x (search rules) a.number) c.requires.few) in
     record { answer = lift_yes binary64 least reach meaning means a.x x k c.requires.few r i; number = is_number x (search rules, i.0, i.1) }
 
-pub returns-then-is-zero : goal.returns-then-is-zero
-returns-then-is-zero c =
+pub returns-then-is_zero : goal.returns-then-is_zero
+returns-then-is_zero c =
     let a = c.args.a in
     let z : magnitude binary64 a.x ≡ 0 = search rules in
     record { answer = ap some c.zero.ensures.answer ∙ lift_nil binary64 least reach meaning means a.x c.args.k c.requires.few z; number = c.zero.ensures.number }

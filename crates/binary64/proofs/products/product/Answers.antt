@@ -10,11 +10,11 @@ use Rattle.binary64.specs.TheMeans.{means, is_number}
 use Rattle.binary64.proofs.ProductAnswers.{product_fine, product_yes, product_no, product_nil}
 use Rattle.binary64.proofs.products.product.Goals as goal
 
-pub in-range-requires : goal.in-range-requires
-in-range-requires c = mul_no_nan binary64 c.args.a.x c.args.b.x c.args.a.number c.args.b.number
+pub in_range-requires : goal.in_range-requires
+in_range-requires c = mul_no_nan binary64 c.args.a.x c.args.b.x c.args.a.number c.args.b.number
 
-pub returns-then-in-range : goal.returns-then-in-range
-returns-then-in-range c =
+pub returns-then-in_range : goal.returns-then-in_range
+returns-then-in_range c =
     let a = c.args.a in
     let b = c.args.b in
     let r : InRange (mul binary64 a.x b.x) = search rules in
@@ -23,12 +23,12 @@ returns-then-in-range c =
       number = is_number (mul binary64 a.x b.x) (product_fine binary64 least reach meaning means a.x b.x (search rules, a.number, a.small) (search rules, b.number, b.small) r);
     }
 
-pub returns-then-one-zero : goal.returns-then-one-zero
-returns-then-one-zero c =
+pub returns-then-one_zero : goal.returns-then-one_zero
+returns-then-one_zero c =
     let a = c.args.a in
     let b = c.args.b in
     record {
-      answer = ap some c.zero.ensures.answer ∙ product_nil binary64 least reach meaning means a.x b.x (search rules, a.number, a.small) (search rules, b.number, b.small) (c.one-zero.ensures.yes c.if-one-zero.true);
+      answer = ap some c.zero.ensures.answer ∙ product_nil binary64 least reach meaning means a.x b.x (search rules, a.number, a.small) (search rules, b.number, b.small) (c.one_zero.ensures.yes c.if-one_zero.true);
       number = c.zero.ensures.number;
     }
 

@@ -12,34 +12,34 @@ use Rattle.binary64.specs.TheRules.{rules}
 use Rattle.binary64.proofs.ProductAnswers.{tail_fine, split_yes, split_no, split_nil}
 use Rattle.binary64.proofs.products.split_product.Goals as goal
 
-pub in-range-requires : goal.in-range-requires
-in-range-requires c = mul_no_nan binary64 c.args.a.x c.args.b.x c.args.a.number c.args.b.number
+pub in_range-requires : goal.in_range-requires
+in_range-requires c = mul_no_nan binary64 c.args.a.x c.args.b.x c.args.a.number c.args.b.number
 
-pub invariant-of-result-then-in-range : goal.invariant-of-result-then-in-range
-invariant-of-result-then-in-range c =
+pub invariant_of-result-then-in_range : goal.invariant_of-result-then-in_range
+invariant_of-result-then-in_range c =
     let a = c.args.a in
     let b = c.args.b in
     let r : InRange (mul binary64 a.x b.x) = search rules in
     let t = tail_fine binary64 least reach meaning means a.x b.x (search rules, a.number, a.small) (search rules, b.number, b.small) r in
-    (ap finite c.product-error-y.ensures ∙ t.1, (subst Small (sym c.product-error-y.ensures) t.2, tt))
+    (ap finite c.product_error-y.ensures ∙ t.1, (subst Small (sym c.product_error-y.ensures) t.2, tt))
 
-pub returns-then-in-range : goal.returns-then-in-range
-returns-then-in-range c =
+pub returns-then-in_range : goal.returns-then-in_range
+returns-then-in_range c =
     let a = c.args.a in
     let b = c.args.b in
     let r : InRange (mul binary64 a.x b.x) = search rules in
-    let t = split_yes binary64 least reach meaning means a.x b.x (search rules, a.number, a.small) (search rules, b.number, b.small) rules r c.product-error-y.result c.product-error-y.ensures in
+    let t = split_yes binary64 least reach meaning means a.x b.x (search rules, a.number, a.small) (search rules, b.number, b.small) rules r c.product_error-y.result c.product_error-y.ensures in
     record { answer = t.0; number = t.1 }
 
-pub returns-then-one-zero : goal.returns-then-one-zero
-returns-then-one-zero c =
+pub returns-then-one_zero : goal.returns-then-one_zero
+returns-then-one_zero c =
     let a = c.args.a in
     let b = c.args.b in
     record {
       answer =
-          split_nil binary64 least reach meaning means a.x b.x (search rules, a.number, a.small) (search rules, b.number, b.small) rules (units c.zero.result) (units c.zero-then-one-zero.result)
-          c.zero.ensures.answer c.zero-then-one-zero.ensures.answer (c.one-zero.ensures.yes c.if-one-zero.true);
-      number = (c.zero.ensures.number, c.zero-then-one-zero.ensures.number);
+          split_nil binary64 least reach meaning means a.x b.x (search rules, a.number, a.small) (search rules, b.number, b.small) rules (units c.zero.result) (units c.zero-then-one_zero.result)
+          c.zero.ensures.answer c.zero-then-one_zero.ensures.answer (c.one_zero.ensures.yes c.if-one_zero.true);
+      number = (c.zero.ensures.number, c.zero-then-one_zero.ensures.number);
     }
 
 pub returns : goal.returns

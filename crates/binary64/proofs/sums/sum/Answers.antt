@@ -8,18 +8,18 @@ use Rattle.binary64.specs.SumAnswers.{sum_finite, sum_fine, sum_yes, sum_no}
 use Rattle.std.proofs.Common.{rules}
 use Rattle.binary64.proofs.sums.sum.Goals as goal
 
-pub at-most-high-requires : goal.at-most-high-requires
-at-most-high-requires c =
+pub at_most_high-requires : goal.at_most_high-requires
+at_most_high-requires c =
     let a = c.args.a in
     let b = c.args.b in
     finite_no_nan (add binary64 a.x b.x) (sum_finite binary64 least reach meaning means a.x b.x (search rules, a.number, a.small) (search rules, b.number, b.small))
 
-pub returns-then-not-at-most-high : goal.returns-then-not-at-most-high
-returns-then-not-at-most-high c =
+pub returns-then-not-at_most_high : goal.returns-then-not-at_most_high
+returns-then-not-at_most_high c =
     let a = c.args.a in
     let b = c.args.b in
     let n = sum_finite binary64 least reach meaning means a.x b.x (search rules, a.number, a.small) (search rules, b.number, b.small) in
-    let h : Small (add binary64 a.x b.x) → ⊥ = c.at-most-high.ensures.no c.if-not-at-most-high.true n in
+    let h : Small (add binary64 a.x b.x) → ⊥ = c.at_most_high.ensures.no c.if-not-at_most_high.true n in
     record { answer = sum_no binary64 least reach meaning means a.x b.x (search rules, a.number, a.small) (search rules, b.number, b.small) h; number = tt }
 
 pub returns : goal.returns
