@@ -15,7 +15,7 @@ pub float_from_bits-result : goal.float_from_bits-result
 float_from_bits-result c = no_nan_bits c.args.bits (search rules)
 
 pub invariant_of-result : goal.invariant_of-result
-invariant_of-result c = let t = bits_fine c.args.bits (search rules) (search rules) in (t.1, (t.2, tt))
+invariant_of-result c = let t = bits_fine c.args.bits (search rules) (search rules) in record { number = t.1; small = t.2 }
 
 pub returns : goal.returns
 returns c = let b = c.args.bits in record { answer = bits_yes b (search rules) (search rules); number = is_number (of_bits binary64 b) (bits_fine b (search rules) (search rules)) }

@@ -12,7 +12,7 @@ pub float_from_bits-result : goal.float_from_bits-result
 float_from_bits-result c = no_nan_bits c.args.bits (search rules)
 
 pub invariant_of-result : goal.invariant_of-result
-invariant_of-result c = let t = bits_fine c.args.bits (search rules) (search rules) in (t.1, (t.2, tt))
+invariant_of-result c = let t = bits_fine c.args.bits (search rules) (search rules) in record { number = t.1; small = t.2 }
 
 pub returns-then-bits-le-HIGH_BITS : goal.returns-then-bits-le-HIGH_BITS
 returns-then-bits-le-HIGH_BITS c =

@@ -7,7 +7,7 @@ use Rattle.std.proofs.Common.{rules}
 use Rattle.binary64.proofs.exact.negative.Goals as goal
 
 pub invariant_of-result : goal.invariant_of-result
-invariant_of-result c = let a = c.args.a in let n = neg_fine a.x (search rules, a.number, a.small) in (n.1, (n.2, tt))
+invariant_of-result c = let a = c.args.a in let n = neg_fine a.x (search rules, a.number, a.small) in record { number = n.1; small = n.2 }
 
 pub returns : goal.returns
 returns c = let a = c.args.a in record { answer = value_neg binary64 a.x; number = is_number (neg a.x) (neg_fine a.x (search rules, a.number, a.small)) }

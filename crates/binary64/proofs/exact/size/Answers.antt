@@ -15,7 +15,7 @@ pub float_from_bits-result : goal.float_from_bits-result
 float_from_bits-result c = let a = c.args.a in let h = size_bits a.x (search rules, a.number, a.small) in no_nan_bits (to_bits binary64 a.x % sign_bit) (omega (arith, h))
 
 pub invariant_of-result : goal.invariant_of-result
-invariant_of-result c = let a = c.args.a in let s = size_fine a.x (search rules, a.number, a.small) in (s.1, (s.2, tt))
+invariant_of-result c = let a = c.args.a in let s = size_fine a.x (search rules, a.number, a.small) in record { number = s.1; small = s.2 }
 
 pub returns : goal.returns
 returns c =

@@ -14,7 +14,7 @@ use Rattle.binary64.proofs.lifting.grain.Goals as goal
 pub invariant_of-result : goal.invariant_of-result
 invariant_of-result c =
     let g = grain_fine c.args.k c.requires.few in
-    (ap finite c.grain.ensures ∙ g.1, (subst Small (sym c.grain.ensures) g.2, tt))
+    record { number = ap finite c.grain.ensures ∙ g.1; small = subst Small (sym c.grain.ensures) g.2 }
 
 pub returns : goal.returns
 returns c =

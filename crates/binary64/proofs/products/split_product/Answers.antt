@@ -8,7 +8,7 @@ use Rattle.binary64.specs.Patterns.{meaning}
 use Rattle.binary64.specs.Doubles.{units}
 use Rattle.binary64.specs.NotNan.{mul_no_nan}
 use Rattle.binary64.specs.TheMeans.{means}
-use Rattle.binary64.specs.TheRules.{rules}
+use Rattle.binary64.specs.TheRules.{rules as the_rules}
 use Rattle.binary64.proofs.ProductAnswers.{tail_fine, split_yes, split_no, split_nil}
 use Rattle.binary64.proofs.products.split_product.Goals as goal
 
@@ -21,14 +21,14 @@ invariant_of-result-then-in_range c =
     let b = c.args.b in
     let r : InRange (mul binary64 a.x b.x) = search rules in
     let t = tail_fine binary64 least reach meaning means a.x b.x (search rules, a.number, a.small) (search rules, b.number, b.small) r in
-    (ap finite c.product_error-y.ensures ∙ t.1, (subst Small (sym c.product_error-y.ensures) t.2, tt))
+    record { number = ap finite c.product_error-y.ensures ∙ t.1; small = subst Small (sym c.product_error-y.ensures) t.2 }
 
 pub returns-then-in_range : goal.returns-then-in_range
 returns-then-in_range c =
     let a = c.args.a in
     let b = c.args.b in
     let r : InRange (mul binary64 a.x b.x) = search rules in
-    let t = split_yes binary64 least reach meaning means a.x b.x (search rules, a.number, a.small) (search rules, b.number, b.small) rules r c.product_error-y.result c.product_error-y.ensures in
+    let t = split_yes binary64 least reach meaning means a.x b.x (search rules, a.number, a.small) (search rules, b.number, b.small) the_rules r c.product_error-y.result c.product_error-y.ensures in
     record { answer = t.0; number = t.1 }
 
 pub returns-then-one_zero : goal.returns-then-one_zero
@@ -37,7 +37,7 @@ returns-then-one_zero c =
     let b = c.args.b in
     record {
       answer =
-          split_nil binary64 least reach meaning means a.x b.x (search rules, a.number, a.small) (search rules, b.number, b.small) rules (units c.zero.result) (units c.zero-then-one_zero.result)
+          split_nil binary64 least reach meaning means a.x b.x (search rules, a.number, a.small) (search rules, b.number, b.small) the_rules (units c.zero.result) (units c.zero-then-one_zero.result)
           c.zero.ensures.answer c.zero-then-one_zero.ensures.answer (c.one_zero.ensures.yes c.if-one_zero.true);
       number = (c.zero.ensures.number, c.zero-then-one_zero.ensures.number);
     }

@@ -28,7 +28,7 @@ invariant_of-result-2 c =
     let a = c.args.a in
     let b = c.args.b in
     let t = rest_fine binary64 least reach meaning means a.x b.x (search rules, a.number, a.small) (search rules, b.number, b.small) in
-    (ap finite c.two_sum-x.ensures.1 ∙ t.1, (subst Small (sym c.two_sum-x.ensures.1) t.2, tt))
+    record { number = ap finite c.two_sum-x.ensures.1 ∙ t.1; small = subst Small (sym c.two_sum-x.ensures.1) t.2 }
 
 pub returns : goal.returns
 returns c =
