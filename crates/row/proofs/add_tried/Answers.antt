@@ -4,11 +4,11 @@ use borrow.Author.Rules.{scaled_fits≤}
 use Rattle.row.proofs.Rows.{number_by, again_within, again_tried, added_none, added}
 use Rattle.row.proofs.add_tried.Goals as goal
 
-pub offset-bounds-1 : goal.offset-bounds-1
-offset-bounds-1 g c = let h : 1 ≤ length c.args.row.now = omega arith in search (rules, scaled_fits≤)
+pub offset_bounds-1 : goal.offset_bounds-1
+offset_bounds-1 g c = let h : 1 ≤ length c.args.row.now = omega arith in search (rules, scaled_fits≤)
 
-pub offset-bounds-1-2 : goal.offset-bounds-1-2
-offset-bounds-1-2 g c = let h : 1 ≤ length c.args.row.now = omega arith in search (rules, scaled_fits≤)
+pub offset_bounds-1-2 : goal.offset_bounds-1-2
+offset_bounds-1-2 g c = let h : 1 ≤ length c.args.row.now = omega arith in search (rules, scaled_fits≤)
 
 pub pass-requires : goal.pass-requires
 pass-requires g c =
@@ -17,13 +17,13 @@ pass-requires g c =
       law = e.law;
       number = number_by _ _ _ e.same c.requires.number;
       within = again_within (pos 0) _ _ _ c.requires.within (e.cells.left refl);
-      tried = λ _. again_tried _ _ _ _ _ _ _ c.requires.within (e.cells.left refl) e.same _ c.if-is-err.ensures.negation e.answer;
+      tried = λ _. again_tried _ _ _ _ _ _ _ c.requires.within (e.cells.left refl) e.same _ c.if-is_err.ensures.negation e.answer;
     }
 
-pub returns-then-is-err : goal.returns-then-is-err
-returns-then-is-err g c =
+pub returns-then-is_err : goal.returns-then-is_err
+returns-then-is_err g c =
     let e = c.pass-trial.ensures in
-    record { cells = added_none _ _ _ _ _ _ _ c.requires.within c.index-row-0.is (e.cells.left refl) c.if-is-err.ensures.negation e.answer; same = e.same; law = e.law }
+    record { cells = added_none _ _ _ _ _ _ _ c.requires.within c.index-row-0.is (e.cells.left refl) c.if-is_err.ensures.negation e.answer; same = e.same; law = e.law }
 
 pub returns : goal.returns
 returns g c =

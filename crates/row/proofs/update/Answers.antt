@@ -4,41 +4,41 @@ use Rattle.coefficients.specs.Row.{new_cell}
 use Rattle.row.proofs.Passes.{canonical_by}
 use Rattle.row.proofs.update.Goals as goal
 
-pub returns-in-default : goal.returns-in-default
+pub returns-in_default : goal.returns-in_default
 unfolding new_cell
-returns-in-default g c = search rules
+returns-in_default g c = search rules
 
-pub returns-in-default-split-sum : goal.returns-in-default-split-sum
+pub returns-in_default-split_sum : goal.returns-in_default-split_sum
 unfolding new_cell
-returns-in-default-split-sum g c = search rules
+returns-in_default-split_sum g c = search rules
 
-pub returns-in-default-sum : goal.returns-in-default-sum
+pub returns-in_default-sum : goal.returns-in_default-sum
 unfolding new_cell
-returns-in-default-sum g c = search rules
+returns-in_default-sum g c = search rules
 
-pub returns-in-default-sum-2 : goal.returns-in-default-sum-2
+pub returns-in_default-sum-2 : goal.returns-in_default-sum-2
 unfolding new_cell
-returns-in-default-sum-2 g c = search rules
+returns-in_default-sum-2 g c = search rules
 
-pub returns-in-default-product : goal.returns-in-default-product
+pub returns-in_default-product : goal.returns-in_default-product
 unfolding new_cell
-returns-in-default-product g c = search rules
+returns-in_default-product g c = search rules
 
-pub returns-in-default-sum-3 : goal.returns-in-default-sum-3
+pub returns-in_default-sum-3 : goal.returns-in_default-sum-3
 unfolding new_cell
-returns-in-default-sum-3 g c = search rules
+returns-in_default-sum-3 g c = search rules
 
-pub returns-in-default-sum-4 : goal.returns-in-default-sum-4
+pub returns-in_default-sum-4 : goal.returns-in_default-sum-4
 unfolding new_cell
-returns-in-default-sum-4 g c = search rules
+returns-in_default-sum-4 g c = search rules
 
-pub returns-in-default-product-2 : goal.returns-in-default-product-2
+pub returns-in_default-product-2 : goal.returns-in_default-product-2
 unfolding new_cell
-returns-in-default-product-2 g c = search rules
+returns-in_default-product-2 g c = search rules
 
-pub returns-in-default-sum-5 : goal.returns-in-default-sum-5
+pub returns-in_default-sum-5 : goal.returns-in_default-sum-5
 unfolding new_cell
-returns-in-default-sum-5 g c = search rules
+returns-in_default-sum-5 g c = search rules
 
 pub returns : goal.returns
 unfolding new_cell
