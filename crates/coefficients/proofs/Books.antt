@@ -6,7 +6,6 @@ use Rattle.std.proofs.Common.{◌≡◌, ℕ, zero, suc, ◌*◌, ◌^◌, ◌<�
 use native.Mathlib.Nat.{pow-zero}
 use lib.Signed.{le_z}
 use Rattle.std.proofs.lemmas.Int.{ints}
-use Rattle.integers.proofs.Ring.{at}
 use Rattle.arithmetic.specs.Meaning.{Meaning, Number}
 use Rattle.arithmetic.specs.Rules.{Rules}
 use Rattle.arithmetic.proofs.Accepted.{zero_is_number}

@@ -2,7 +2,6 @@
 -- r is n − 1, or 0 for a new row: so many additions rounded anything.
 use Rattle.std.proofs.Common.{◌≡◌, ℕ, zero, suc, ◌+◌, ◌-◌, ◌*◌, ◌^◌, ◌<◌, ◌≤◌, ℤ, pos, negsuc, ◌+ℤ◌, ◌-ℤ◌, ◌*ℤ◌, nat_abs, sym, refl, ap, ◌∙◌, mul-le-mul_right, mul-le-mul_left, arith}
 use native.Mathlib.Nat.{pow-succ', pow-le-pow_left}
-use mathlib.Core.Option.{none}
 use Rattle.std.proofs.lemmas.Int.{ints}
 use Rattle.integers.proofs.Ring.{ring, at, num, ◌⊕◌, ◌⊗◌, ⊖◌}
 use Rattle.integers.proofs.Integers.{abs_mul, abs_tri, spread, times_times, *ℤ_assoc}

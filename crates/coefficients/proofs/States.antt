@@ -3,7 +3,6 @@
 -- call because it leaves row and count.
 use Rattle.std.proofs.Common.{◌≡◌, ℕ, suc, ◌<◌, ◌≤◌, min, Bool, true, false, cond, ◌&&◌, T, eqb, ltb, leb, List, [], ◌∷◌, ◌++◌, length, ℤ, pos, refl, ◌∙◌, arith, ltb→lt, length-append}
 use lib.Signed.{le_z}
-use Rattle.integers.proofs.Ring.{at}
 use Rattle.arithmetic.specs.Meaning.{Admission, number, not_admitted, Number}
 use Rattle.arithmetic.specs.Operations.{in_limits}
 use Rattle.arithmetic.specs.Rules.{Rules}

@@ -7,7 +7,7 @@ use Rattle.std.proofs.Common.{◌≡◌, ℕ, suc, ◌+◌, ◌-◌, ◌*◌, �
 use native.Mathlib.Nat.{le_of_mul-le-mul_left, pow-succ', pow-zero, pow-le-pow_right}
 use native.Mathlib.Decide.{dec_le}
 use Rattle.std.proofs.lemmas.Int.{ints}
-use Rattle.integers.proofs.Ring.{ring, at, num, ◌⊕◌, ◌⊗◌, ⊖◌}
+use Rattle.integers.proofs.Ring.{ring, num, ◌⊕◌, ◌⊗◌, ⊖◌}
 use Rattle.integers.proofs.Integers.{abs_mul}
 use Rattle.integers.proofs.Naturals.{some_power, dist, dist_bound}
 use Rattle.rounding.specs.Radix.{rounded, rounding}

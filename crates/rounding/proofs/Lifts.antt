@@ -1,7 +1,6 @@
 -- The grain m / 2^p, one less a grain, and a quotient by that. The product of m and 2^−p and the difference from 1 have at
 -- most p digits, so both float operations are exact; the one rounding is that of the quotient, a · 2^p / (2^p − m).
 use Rattle.std.proofs.Common.{◌≡◌, ℕ, suc, ◌+◌, ◌-◌, ◌*◌, ◌^◌, ◌<◌, ◌≤◌, true, false, T, ℤ, pos, negsuc, ◌-ℤ◌, ◌*ℤ◌, neg_ℤ, sym, refl, ap, ◌∙◌, subst, inr, le_of_lt, mul_assoc, mul-pos, mul_right_comm, arith, lit<, pow_pos, shl_lt}
-use borrow.Author.Differences as D
 use borrow.Author.Differences.{same_in}
 use lib.Ieee.{Float, nan, inf, fin, Format, binary32, binary64, prec, emax, low, up, down, round, of_int, sub, mul, div, fits}
 use lib.Ieee.Fits.{mul-fits, sub-fits, of_int-fits}
