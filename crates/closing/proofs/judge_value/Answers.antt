@@ -3,33 +3,33 @@ use Rattle.std.proofs.Common.{rules}
 use Rattle.coefficients.specs.Closing.{verdict}
 use Rattle.closing.proofs.judge_value.Goals as goal
 
-pub returns-in-default : goal.returns-in-default
+pub returns-in_default : goal.returns-in_default
 unfolding verdict
-returns-in-default g c = search rules
+returns-in_default g c = search rules
 
-pub returns-in-default-sum : goal.returns-in-default-sum
+pub returns-in_default-sum : goal.returns-in_default-sum
 unfolding verdict
-returns-in-default-sum g c = search rules
+returns-in_default-sum g c = search rules
 
-pub returns-in-default-lift : goal.returns-in-default-lift
+pub returns-in_default-lift : goal.returns-in_default-lift
 unfolding verdict
-returns-in-default-lift g c = search rules
+returns-in_default-lift g c = search rules
 
-pub returns-in-default-sum-2 : goal.returns-in-default-sum-2
+pub returns-in_default-sum-2 : goal.returns-in_default-sum-2
 unfolding verdict
-returns-in-default-sum-2 g c = search rules
+returns-in_default-sum-2 g c = search rules
 
-pub returns-in-default-lift-2 : goal.returns-in-default-lift-2
+pub returns-in_default-lift-2 : goal.returns-in_default-lift-2
 unfolding verdict
-returns-in-default-lift-2 g c = search rules
+returns-in_default-lift-2 g c = search rules
 
-pub returns-then-at-most : goal.returns-then-at-most
+pub returns-then-at_most : goal.returns-then-at_most
 unfolding verdict
-returns-then-at-most g c = search rules
+returns-then-at_most g c = search rules
 
-pub returns-then-is-below : goal.returns-then-is-below
+pub returns-then-is_below : goal.returns-then-is_below
 unfolding verdict
-returns-then-is-below g c = search rules
+returns-then-is_below g c = search rules
 
 pub returns : goal.returns
 unfolding verdict

@@ -1,4 +1,4 @@
-use Rattle.std.proofs.Common.{◌≡◌, sym, ◌∙◌, arith}
+use Rattle.std.proofs.Common.{sym, ◌∙◌, arith}
 use Rattle.closing.proofs.Signs.{signed_even, signed_odd}
 use Rattle.closing.proofs.with_sign.Goals as goal
 
