@@ -12,7 +12,7 @@ use Rattle.closing.specs.Closings.{GivesNumbers}
 use Rattle.closing.specs.declared.verdict.Verdict.{Verdict}
 use Rattle.bench.specs.Answers.{told_refusal, IssuedFor, OneMore}
 use Rattle.bench.specs.Asking.{order_outcome, question_out, marking_step, JudgedOut}
-use Rattle.bench.specs.Benches.{making_of, Standing, Called, Keeps, AdditionLeaves, ClearingLeaves}
+use Rattle.bench.specs.Benches.{Standing, Called, Keeps, AdditionLeaves, ClearingLeaves}
 use Rattle.bench.specs.declared.Bench.{Bench}
 use Rattle.bench.specs.declared.question.Question.{Question}
 use Rattle.bench.specs.declared.refusal.Refusal.{Refusal}

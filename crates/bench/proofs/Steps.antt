@@ -1,6 +1,6 @@
 -- What `step` answers, exit by exit: one lemma for each exit of a call, from the questions answered on the way to it. The law at
 -- the call comes with the answer.
-use Rattle.std.proofs.Common.{◌≡◌, ℕ, suc, ◌-◌, ◌<◌, ◌≤◌, min, Bool, true, false, cond, T, eqb, leb, List, [], ◌∷◌, length, get_or, take, drop, ℤ, pos, Ok, Err, Result, sym, refl, ap, ◌∙◌, arith, leb→le}
+use Rattle.std.proofs.Common.{◌≡◌, ℕ, suc, ◌-◌, ◌<◌, ◌≤◌, min, Bool, true, false, cond, T, eqb, leb, List, [], ◌∷◌, length, get_or, ℤ, pos, Ok, Err, Result, sym, refl, ap, ◌∙◌, arith, leb→le}
 use lib.Signed.{le_z}
 use Rattle.std.proofs.lemmas.List.{get_or-map}
 use Rattle.integers.proofs.Tests.{ltb_yes, ltb_no, eqb_yes, eqb_no, taken, passed}

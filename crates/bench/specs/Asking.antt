@@ -1,5 +1,5 @@
 -- What the bench's inner functions ask and answer.
-use Rattle.std.specs.Prelude.{◌≡◌, ℕ, ◌-◌, ◌<◌, Bool, cond, ◌&&◌, Ok, Err, Result, ◌==◌, nat_le, nat_lt}
+use Rattle.std.specs.Prelude.{ℕ, ◌-◌, ◌<◌, Bool, cond, ◌&&◌, Ok, Err, Result, ◌==◌, nat_le, nat_lt}
 use Rattle.closing.specs.Closings.{told_verdict}
 use Rattle.closing.specs.declared.verdict.Verdict.{Verdict}
 use Rattle.coefficients.specs.Calls.{State, Step, marked}

@@ -1,5 +1,5 @@
 -- Refused where a question is out; else the row is the new one.
-use Rattle.std.proofs.Common.{◌≡◌, sym, refl, ap, ◌∙◌, arith}
+use Rattle.std.proofs.Common.{sym, refl, ◌∙◌, arith}
 use Rattle.bench.proofs.Steps.{clear_2, clear_ok}
 use Rattle.bench.proofs.Exits.{keeps_all, keeps_long, clearing_refused, clearing_done}
 use Rattle.bench.proofs.Bench.clear_if.Goals as goal

@@ -1,5 +1,5 @@
 -- One exit of `step` for each exit of the code.
-use Rattle.std.proofs.Common.{◌≡◌, ◌-◌, length, sym, refl, ap, ◌∙◌, arith}
+use Rattle.std.proofs.Common.{refl, arith}
 use Rattle.bench.proofs.Steps.{mark_step}
 use Rattle.bench.proofs.Exits.{keeps_all, keeps_long}
 use Rattle.bench.proofs.Bench.mark_admitted.Goals as goal

@@ -1,5 +1,5 @@
 -- One exit of `step` for each exit of the code.
-use Rattle.std.proofs.Common.{◌≡◌, ◌-◌, length, sym, refl, ap, ◌∙◌, arith}
+use Rattle.std.proofs.Common.{sym, refl, ◌∙◌, arith}
 use Rattle.bench.proofs.Steps.{withdraw_10, withdraw_ok}
 use Rattle.bench.proofs.Exits.{keeps_all, keeps_long, out_some}
 use Rattle.bench.proofs.Bench.withdraw_if.Goals as goal
