@@ -71,8 +71,8 @@ fn ask(bench: &Bench<Binary64>, order: u8) -> Line
 // Withdraws a question of this bench.
 fn withdraw(bench: &mut Bench<Binary64>, question: Question)
     requires standing { Standing bench.old }
-    requires bench_value { question.bench ≡ bench.old.number }
-    requires out_nonzero { 0 < bench.old.out }
+    requires own { question.bench ≡ bench.old.number }
+    requires out { 0 < bench.old.out }
     ensures { Standing bench.new }
 {
     match bench.withdraw(&Binary64, question) {
@@ -90,8 +90,8 @@ fn settle(
     tolerance: &[u8; 8],
 ) -> Line
     requires standing { Standing bench.old }
-    requires bench_value { question.bench ≡ bench.old.number }
-    requires out_nonzero { 0 < bench.old.out }
+    requires own { question.bench ≡ bench.old.number }
+    requires out { 0 < bench.old.out }
     ensures { Standing bench.new }
 {
     let mut arith = Binary64;

@@ -55,11 +55,11 @@ fn asked(bench: &Bench<Binary64>, order: u8) -> Option<Refusal>
 // Withdraws a question of this bench.
 fn withdraw(bench: &mut Bench<Binary64>, question: Question)
     requires standing { Standing bench.old }
-    requires bench_value { question.bench ≡ bench.old.number }
-    requires out_nonzero { 0 < bench.old.out }
-    ensures standing_2 { Standing bench.new }
-    ensures number_unchanged { bench.new.number ≡ bench.old.number }
-    ensures out_after { bench.new.out + 1 ≡ bench.old.out }
+    requires own { question.bench ≡ bench.old.number }
+    requires out { 0 < bench.old.out }
+    ensures standing { Standing bench.new }
+    ensures number { bench.new.number ≡ bench.old.number }
+    ensures fewer { bench.new.out + 1 ≡ bench.old.out }
 {
     match bench.withdraw(&Binary64, question) {
         Ok(()) => {}
@@ -123,8 +123,8 @@ fn added_65(bench: &mut Bench<Binary64>) -> Option<Refusal>
 fn issued_33(bench: &mut Bench<Binary64>, more: u8) -> Option<Refusal>
     requires { Standing bench.old }
     ensures standing { Standing bench.new }
-    ensures number_unchanged { bench.new.number ≡ bench.old.number }
-    ensures out_unchanged { bench.new.out ≡ bench.old.out }
+    ensures number { bench.new.number ≡ bench.old.number }
+    ensures out { bench.new.out ≡ bench.old.out }
 {
     match bench.issue(&Binary64, 0) {
         Ok(question) => {
@@ -143,9 +143,9 @@ fn issued_33(bench: &mut Bench<Binary64>, more: u8) -> Option<Refusal>
 // 10: a question of another bench, which is then withdrawn where it was issued.
 fn withdrawn_elsewhere(bench: &mut Bench<Binary64>, other: &mut Bench<Binary64>) -> Option<Refusal>
     requires standing { Standing bench.old }
-    requires standing_2 { Standing other.old }
-    ensures standing_3 { Standing bench.new }
-    ensures standing_4 { Standing other.new }
+    requires other { Standing other.old }
+    ensures standing { Standing bench.new }
+    ensures other { Standing other.new }
 {
     match other.issue(&Binary64, 0) {
         Ok(question) => match bench.withdraw(&Binary64, question) {

@@ -1,5 +1,5 @@
 -- Each call has one question fewer to issue.
 use Rattle.refusals.proofs.+issued_33.Given as goal
 
-abbrev pub decreases-issued-33 : goal.decreases-issued-33
-decreases-issued-33 l = l.more
+abbrev pub decreases-issued_33 : goal.decreases-issued_33
+decreases-issued_33 l = l.more
