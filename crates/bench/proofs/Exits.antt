@@ -1,5 +1,5 @@
 -- What a call leaves at each of its exits: what the bench was made with, its standing condition, and its plain cells.
-use Rattle.std.proofs.Common.{◌≡◌, ℕ, suc, ◌-◌, ◌<◌, ◌≤◌, Bool, true, false, ◌&&◌, T, eqb, ltb, List, map, length, get_or, take, drop, ℤ, pos, is_err, IsErrAnd, Ok, Err, Result, sym, refl, ap, ◌∙◌, subst, arith, ltb→lt}
+use Rattle.std.proofs.Common.{◌≡◌, ℕ, suc, ◌-◌, ◌<◌, ◌≤◌, Bool, true, false, ◌&&◌, T, eqb, ltb, List, map, length, get_or, take, drop, ℤ, pos, is_err, IsErrAnd, IfOk, Ok, Err, Result, sym, refl, ap, ◌∙◌, subst, arith, ltb→lt}
 use lib.Signed.{le_z}
 use Rattle.arithmetic.specs.Meaning.{Meaning}
 use Rattle.arithmetic.specs.Setting.{Setting}
@@ -36,6 +36,10 @@ no_more (Err e) out h = refl
 pub not_issued : (bench k : ℕ) (r : Result Question Refusal) → is_err r ≡ true → IssuedFor bench k r
 not_issued bench k (Ok q) h = not_false (sym h)
 not_issued bench k (Err e) h = tt
+
+pub no_order : (r : Result Question Refusal) → is_err r ≡ true → IfOk r (λ q. q.order ≤ 64)
+no_order (Ok q) h = not_false (sym h)
+no_order (Err e) h = tt
 
 pub judged_none : (s : State) (r : Result Verdict Refusal) (x : Refusal) → IsErrAnd r (λ e. e ≡ x) → (marking_step s r ≡ record { answer = told_refusal x; then = s }) × JudgedOut r s.out
 judged_none s (Ok v) x h = absurd h

@@ -2,7 +2,7 @@
 // withdrawing. Generic over the arithmetic, which is handed to each call.
 #![tactic(auto)]
 
-ghost use Rattle.std.specs.Prelude.{◌≡◌, suc, ◌-◌, ◌<◌, ◌≤◌, min, map, length, ◌==◌, slice_index_or};
+ghost use Rattle.std.specs.Prelude.{◌≡◌, suc, ◌-◌, ◌<◌, ◌≤◌, min, map, length, ◌==◌, slice_index_or, IfOk};
 ghost use Rattle.coefficients.specs.Row.{new_row};
 ghost use Rattle.coefficients.specs.Calls.{row_refusal, new_bench, step, mark_numbers, add as add_call, clear as clear_call, ask as ask_call, issue as issue_call, mark as mark_call, withdraw as withdraw_call};
 ghost use Rattle.coefficients.specs.Book.{accepted};
@@ -226,6 +226,7 @@ impl<'r, A: Arithmetic> Bench<'r, A> {
         ensures keeps { Keeps (A.Arithmetic.setting arith.now) self.old self.new }
         ensures lender { self.new.row.ghost_name ≡ self.old.row.ghost_name }
         ensures question { IssuedFor self.old.number k result }
+        ensures lasting { IfOk result (λ q. q.order ≤ 64) }
         ensures counts { OneMore result self.old.out self.new.out }
     {
         let held = self.held;
@@ -242,6 +243,7 @@ impl<'r, A: Arithmetic> Bench<'r, A> {
         ensures keeps { Keeps (A.Arithmetic.setting arith.now) self.old self.new }
         ensures lender { self.new.row.ghost_name ≡ self.old.row.ghost_name }
         ensures question { IssuedFor self.old.number k result }
+        ensures lasting { IfOk result (λ q. q.order ≤ 64) }
         ensures counts { OneMore result self.old.out self.new.out }
     {
         self.check_order(k, n)?;

@@ -1,10 +1,10 @@
 // A question that a bench has issued.
-ghost use Rattle.std.specs.Prelude.{◌≡◌};
+ghost use Rattle.std.specs.Prelude.{◌≡◌, ◌<◌};
 
 use crate::refusal::Refusal;
 
 // The bench number and the order. A question is made by issuing alone, and must be marked or withdrawn: it cannot be copied, and
-// to let one go needs a proof of what is false.
+// to let one go needs an order above 64, which no issued question has.
 pub struct Question {
     pub(crate) bench: u16,
     pub(crate) order: u8,
@@ -12,7 +12,7 @@ pub struct Question {
 
 impl Drop for Question {
     fn drop(self)
-        requires { ⊥ }
+        requires { 64 < self.order }
     {
         let Question { bench: _, order: _ } = self;
     }

@@ -7,5 +7,5 @@ loop-i-preserved c = (
   simp length-set c.loop-i.invariant.0,
   below_more _ _
       (λ k h. let ne : k ≢ c.loop-i.i = omega arith in rw get_or-set_other (c.loop-i.invariant.1 k h))
-      (let lt : c.loop-i.i < length c.loop-i.bytes = omega arith in rw get_or-set_same (sym c.in-ok-bytes.ensures)),
+      (let lt : c.loop-i.i < length c.loop-i.bytes = omega arith in rw get_or-set_same (sym c.in_ok-bytes.ensures)),
 )

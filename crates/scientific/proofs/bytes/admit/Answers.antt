@@ -10,10 +10,10 @@ returns-then-bytes-ne0 c = record { answer = admit_other c.args.d c.args.bytes.n
 
 pub returns : goal.returns
 returns c =
-    let m = c.from-be-bytes-m in
-    let e = c.from-be-bytes-e in
+    let m = c.from_be_bytes-m in
+    let e = c.from_be_bytes-e in
     record {
-      answer = admit_parts c.args.d c.args.bytes.now _ _ _ c.fits-bytes c.if-bytes-ne0.false c.if-bytes-ne0-2.false (to_z-of_z w32 m.result (record { sfits = m.type-inv }) ∙ m.ensures)
-          (to_z-of_z w16 e.result (record { sfits = e.type-inv }) ∙ e.ensures) c.checked.ensures.answer;
+      answer = admit_parts c.args.d c.args.bytes.now _ _ _ c.fits-bytes c.if-bytes-ne0.false c.if-bytes-ne0-2.false (to_z-of_z w32 m.result (record { sfits = m.type_inv }) ∙ m.ensures)
+          (to_z-of_z w16 e.result (record { sfits = e.type_inv }) ∙ e.ensures) c.checked.ensures.answer;
       number = c.checked.ensures.number;
     }

@@ -17,6 +17,6 @@ pub returns : goal.returns
 returns c =
     let a = c.args.a in
     let s = c.shortened-size in
-    let e = written_signed c.args.d a.negative (size_of a.significand a.zeros) s.result.1 c.with-sign.result (some_size a.significand a.zeros c.if-a-eq0.false) s.ensures.zeros
-    (c.with-sign.ensures.m ∙ ap (signed a.negative) s.ensures.size) c.with-sign.ensures.e in
+    let e = written_signed c.args.d a.negative (size_of a.significand a.zeros) s.result.1 c.with_sign.result (some_size a.significand a.zeros c.if-a-eq0.false) s.ensures.zeros
+    (c.with_sign.ensures.m ∙ ap (signed a.negative) s.ensures.size) c.with_sign.ensures.e in
     record { answer = e; back = ap (reads c.args.d) e ∙ written_reads c.args.d _ (omega arith) c.requires.most c.requires.number }

@@ -13,5 +13,5 @@ pub returns : goal.returns
 returns c =
     let a = c.args.a in
     let b = c.args.b in
-    stays c.rank.result c.rank-2.result (record { sfits = c.rank.type-inv }) (record { sfits = c.rank-2.type-inv }) ∙ ap (λ (x : ℤ). le_z x c.rank-2.result) c.rank.ensures ∙ ap (le_z _) c.rank-2.ensures
+    stays c.rank.result c.rank-2.result (record { sfits = c.rank.type_inv }) (record { sfits = c.rank-2.type_inv }) ∙ ap (λ (x : ℤ). le_z x c.rank-2.result) c.rank.ensures ∙ ap (le_z _) c.rank-2.ensures
     ∙ rank_order a.negative b.negative a.significand a.zeros b.significand b.zeros (full_is a.significand a.zeros a.full) (full_is b.significand b.zeros b.full)

@@ -18,26 +18,26 @@ formed t n k s z r h f = subst (λ (x : ℕ). Formed (signed t x) r) h.same f
 cut_by : (n c p zeros : ℕ) → Digits 10 8 n → Counts n c → 8 < c → p ≡ 10 ^ (c - 8) → Shape n zeros (n / p) (zeros + (c - 8))
 cut_by n c p zeros h C l e = subst (λ (x : ℕ). Shape n zeros (n / x) (zeros + (c - 8))) (sym e) (cut n c h C l zeros)
 
-pub nonzero-div-n : goal.nonzero-div-n
-nonzero-div-n c = subst (λ (x : ℕ). 0 < x) (sym c.power.ensures) (some_ten (c.digits-count.result - 8))
+pub nonzero_div-n : goal.nonzero_div-n
+nonzero_div-n c = subst (λ (x : ℕ). 0 < x) (sym c.power.ensures) (some_ten (c.digits-count.result - 8))
 
 shape_cut : (c : goal.After-power) → Shape c.args.n c.args.zeros (c.args.n / c.power.result) (c.args.zeros + (c.digits-count.result - 8))
 shape_cut c =
     let d = c.digits-count in
     cut_by c.args.n d.result c.power.result c.args.zeros c.requires.short (d.ensures.under, d.ensures.least) c.if-count-gt8.true c.power.ensures
 
-pub overflow-cast-n : goal.overflow-cast-n
-overflow-cast-n c = fits _ _ _ _ (shape_cut c)
+pub overflow_cast-n : goal.overflow_cast-n
+overflow_cast-n c = fits _ _ _ _ (shape_cut c)
 
-pub not-above-requires-then-count-gt8 : goal.not-above-requires-then-count-gt8
-not-above-requires-then-count-gt8 c = (shape_cut c).full
+pub not_above-requires-then-count-gt8 : goal.not_above-requires-then-count-gt8
+not_above-requires-then-count-gt8 c = (shape_cut c).full
 
 pub returns-then-count-gt8 : goal.returns-then-count-gt8
 returns-then-count-gt8 c =
     let d = c.digits-count in
-    formed c.args.negative c.args.n c.args.zeros _ _ c.not-above-then-count-gt8.result
+    formed c.args.negative c.args.n c.args.zeros _ _ c.not_above-then-count-gt8.result
     (cut_by c.args.n d.result c.power.result c.args.zeros c.requires.short (d.ensures.under, d.ensures.least) c.if-count-gt8.true c.power.ensures)
-    c.not-above-then-count-gt8.ensures
+    c.not_above-then-count-gt8.ensures
 
 -- ---- all zeros are taken in
 filled_by : (n c p zeros : ℕ) → Counts n c → c ≤ 8 → zeros ≤ 8 - c → p ≡ 10 ^ zeros → Shape n zeros (n * p) 0
@@ -48,18 +48,18 @@ shape_filled c =
     let d = c.digits-count in
     filled_by c.args.n d.result c.power-then-zeros-room.result c.args.zeros (d.ensures.under, d.ensures.least) c.if-count-gt8.false c.if-zeros-room.true c.power-then-zeros-room.ensures
 
-pub overflow-cast-n-then-zeros-room : goal.overflow-cast-n-then-zeros-room
-overflow-cast-n-then-zeros-room c = fits _ _ _ _ (shape_filled c)
+pub overflow_cast-n-then-zeros-room : goal.overflow_cast-n-then-zeros-room
+overflow_cast-n-then-zeros-room c = fits _ _ _ _ (shape_filled c)
 
-pub not-above-requires-then-zeros-room : goal.not-above-requires-then-zeros-room
-not-above-requires-then-zeros-room c = (shape_filled c).full
+pub not_above-requires-then-zeros-room : goal.not_above-requires-then-zeros-room
+not_above-requires-then-zeros-room c = (shape_filled c).full
 
 pub returns-then-zeros-room : goal.returns-then-zeros-room
 returns-then-zeros-room c =
     let d = c.digits-count in
-    formed c.args.negative c.args.n c.args.zeros _ _ c.not-above-then-zeros-room.result
+    formed c.args.negative c.args.n c.args.zeros _ _ c.not_above-then-zeros-room.result
     (filled_by c.args.n d.result c.power-then-zeros-room.result c.args.zeros (d.ensures.under, d.ensures.least) c.if-count-gt8.false c.if-zeros-room.true c.power-then-zeros-room.ensures)
-    c.not-above-then-zeros-room.ensures
+    c.not_above-then-zeros-room.ensures
 
 -- ---- as many as there is room for
 eight_by : (n c p zeros : ℕ) → Counts n c → c ≤ 8 → (n ≡ 0 → ⊥) → 8 - c ≤ zeros → p ≡ 10 ^ (8 - c) → Shape n zeros (n * p) (zeros - (8 - c))
@@ -70,18 +70,18 @@ shape_eight c =
     let d = c.digits-count in
     eight_by c.args.n d.result c.power-2.result c.args.zeros (d.ensures.under, d.ensures.least) c.if-count-gt8.false c.if-n-eq0.false (omega arith) c.power-2.ensures
 
-pub overflow-cast-n-2 : goal.overflow-cast-n-2
-overflow-cast-n-2 c = fits _ _ _ _ (shape_eight c)
+pub overflow_cast-n-2 : goal.overflow_cast-n-2
+overflow_cast-n-2 c = fits _ _ _ _ (shape_eight c)
 
-pub not-above-requires-2 : goal.not-above-requires-2
-not-above-requires-2 c = (shape_eight c).full
+pub not_above-requires-2 : goal.not_above-requires-2
+not_above-requires-2 c = (shape_eight c).full
 
 pub returns : goal.returns
 returns c =
     let d = c.digits-count in
-    formed c.args.negative c.args.n c.args.zeros _ _ c.not-above-2.result
+    formed c.args.negative c.args.n c.args.zeros _ _ c.not_above-2.result
     (eight_by c.args.n d.result c.power-2.result c.args.zeros (d.ensures.under, d.ensures.least) c.if-count-gt8.false c.if-n-eq0.false (omega arith) c.power-2.ensures)
-    c.not-above-2.ensures
+    c.not_above-2.ensures
 
 -- ---- zero
 pub returns-then-n-eq0 : goal.returns-then-n-eq0

@@ -2,5 +2,5 @@
 use Rattle.std.proofs.Common.{sym, mul-one, arith}
 use Rattle.scientific.proofs.forms.full_form.Goals as goal
 
-pub exact-form-requires : goal.exact-form-requires
-exact-form-requires c = record { short = record { m = c.args.significand; e = 0; is = sym (mul-one c.args.significand); few = c.requires.short }; few = omega arith }
+pub exact_form-requires : goal.exact_form-requires
+exact_form-requires c = record { short = record { m = c.args.significand; e = 0; is = sym (mul-one c.args.significand); few = c.requires.short }; few = omega arith }

@@ -5,22 +5,22 @@ use Rattle.scientific.proofs.Limits.{full_is, small_in, up_to_highest, over_high
 use Rattle.scientific.proofs.Values.{above_signed}
 use Rattle.scientific.proofs.forms.not_above.Goals as goal
 
-pub returns-then-zeros-gt-MOST-ZEROS : goal.returns-then-zeros-gt-MOST-ZEROS
-returns-then-zeros-gt-MOST-ZEROS c =
+pub returns-then-zeros-gt-MOST_ZEROS : goal.returns-then-zeros-gt-MOST_ZEROS
+returns-then-zeros-gt-MOST_ZEROS c =
     let s = c.args.significand in
     let z = c.args.zeros in
     let l : 10 ^ 7 ≤ s = ⊎_elim (λ e. absurd (omega arith)) (λ h. h) (full_is s z c.requires).1 in
-    above_signed c.args.negative highest (size_of s z) (over_highest s z l c.if-zeros-gt-MOST-ZEROS.true)
+    above_signed c.args.negative highest (size_of s z) (over_highest s z l c.if-zeros-gt-MOST_ZEROS.true)
 
-pub returns-then-significand-gt-LEAST-SIGNIFICAND : goal.returns-then-significand-gt-LEAST-SIGNIFICAND
-returns-then-significand-gt-LEAST-SIGNIFICAND c =
+pub returns-then-significand-gt-LEAST_SIGNIFICAND : goal.returns-then-significand-gt-LEAST_SIGNIFICAND
+returns-then-significand-gt-LEAST_SIGNIFICAND c =
     let s = c.args.significand in
     let z = c.args.zeros in
-    above_signed c.args.negative highest (size_of s z) (rw c.if-zeros-eq-MOST-ZEROS.true (past_highest s c.if-significand-gt-LEAST-SIGNIFICAND.true))
+    above_signed c.args.negative highest (size_of s z) (rw c.if-zeros-eq-MOST_ZEROS.true (past_highest s c.if-significand-gt-LEAST_SIGNIFICAND.true))
 
-pub invariant-of-result : goal.invariant-of-result
-invariant-of-result c =
+pub invariant_of-result : goal.invariant_of-result
+invariant_of-result c =
     let s = c.args.significand in
     let z = c.args.zeros in
-    let t : z ≡ 103 → s ≤ 10 ^ 7 = λ e. elim c.else-zeros-eq-MOST-ZEROS.either [ inl p ↦ p.1 | inr n ↦ absurd (n e) ] in
-    (c.requires, (small_in s z (up_to_highest s z (full_is s z c.requires).0 c.if-zeros-gt-MOST-ZEROS.false t), tt))
+    let t : z ≡ 103 → s ≤ 10 ^ 7 = λ e. elim c.else-zeros-eq-MOST_ZEROS.either [ inl p ↦ p.1 | inr n ↦ absurd (n e) ] in
+    record { full = c.requires; small = small_in s z (up_to_highest s z (full_is s z c.requires).0 c.if-zeros-gt-MOST_ZEROS.false t) }

@@ -12,39 +12,39 @@ use Rattle.scientific.proofs.lifting.lift.Goals as goal
 pub returns-then-a-eq0 : goal.returns-then-a-eq0
 returns-then-a-eq0 c = record { answer = nil c.args.d c.requires.least c.requires.most c.args.a c.args.k c.requires.few c.if-a-eq0.true; number = c.requires.operand }
 
-pub exact-form-requires : goal.exact-form-requires
-exact-form-requires c =
-    let r = c.round-fraction-r in
+pub exact_form-requires : goal.exact_form-requires
+exact_form-requires c =
+    let r = c.round_fraction-r in
     let z : c.args.a.zeros < 256 = search rules in
     record { short = short_digits c.args.d r.result.significand c.requires.most r.ensures.short; few = omega arith }
 
-pub returns-in-err-x : goal.returns-in-err-x
-returns-in-err-x c =
-    let r = c.round-fraction-r in
-    let w = c.roundoffs-in-one-whole in
-    let o = c.from-residual in
-    let n = above c.args.d c.requires.least c.requires.most c.args.a c.args.k c.requires.few c.if-a-eq0.false r.result.significand r.result.zeros w.result w.ensures.value r.ensures.value c.in-err-x.ensures in
+pub returns-in_err-x : goal.returns-in_err-x
+returns-in_err-x c =
+    let r = c.round_fraction-r in
+    let w = c.roundoffs_in_one-whole in
+    let o = c.from_residual in
+    let n = above c.args.d c.requires.least c.requires.most c.args.a c.args.k c.requires.few c.if-a-eq0.false r.result.significand r.result.zeros w.result w.ensures.value r.ensures.value c.in_err-x.ensures in
     record {
       answer = subst (λ (y : Option Scientific). valued units y ≡ lift (meaning c.args.d) (units c.args.a) c.args.k) (sym o.ensures) n;
       number = subst (λ (y : Option Scientific). Gives (meaning c.args.d) units y) (sym o.ensures) tt;
     }
 
-pub returns-then-not-below : goal.returns-then-not-below
-returns-then-not-below c =
-    let r = c.round-fraction-r in
-    let w = c.roundoffs-in-one-whole in
-    let x = c.in-ok-x.x in
+pub returns-then-not_below : goal.returns-then-not_below
+returns-then-not_below c =
+    let r = c.round_fraction-r in
+    let w = c.roundoffs_in_one-whole in
+    let x = c.in_ok-x.x in
     record {
-      answer = within c.args.d c.requires.least c.requires.most c.args.a c.args.k c.requires.few c.if-a-eq0.false r.result.significand r.result.zeros w.result w.ensures.value r.ensures.value x c.in-ok-x.ensures (c.not_below.ensures.yes c.if-not-below.true);
-      number = number c.args.d c.requires.least c.requires.most c.args.a c.args.k c.requires.few c.if-a-eq0.false r.result.significand r.result.zeros w.result w.ensures.value r.ensures.value x c.in-ok-x.ensures;
+      answer = within c.args.d c.requires.least c.requires.most c.args.a c.args.k c.requires.few c.if-a-eq0.false r.result.significand r.result.zeros w.result w.ensures.value r.ensures.value x c.in_ok-x.ensures (c.not_below.ensures.yes c.if-not_below.true);
+      number = number c.args.d c.requires.least c.requires.most c.args.a c.args.k c.requires.few c.if-a-eq0.false r.result.significand r.result.zeros w.result w.ensures.value r.ensures.value x c.in_ok-x.ensures;
     }
 
-pub returns-else-not-below : goal.returns-else-not-below
-returns-else-not-below c =
-    let r = c.round-fraction-r in
-    let w = c.roundoffs-in-one-whole in
-    let x = c.in-ok-x.x in
+pub returns-else-not_below : goal.returns-else-not_below
+returns-else-not_below c =
+    let r = c.round_fraction-r in
+    let w = c.roundoffs_in_one-whole in
+    let x = c.in_ok-x.x in
     record {
-      answer = under c.args.d c.requires.least c.requires.most c.args.a c.args.k c.requires.few c.if-a-eq0.false r.result.significand r.result.zeros w.result w.ensures.value r.ensures.value x c.in-ok-x.ensures (c.not_below.ensures.no c.if-not-below.false);
+      answer = under c.args.d c.requires.least c.requires.most c.args.a c.args.k c.requires.few c.if-a-eq0.false r.result.significand r.result.zeros w.result w.ensures.value r.ensures.value x c.in_ok-x.ensures (c.not_below.ensures.no c.if-not_below.false);
       number = tt;
     }

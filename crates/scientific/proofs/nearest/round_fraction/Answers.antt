@@ -16,8 +16,8 @@ returns-then-count-d c =
     let r = few c.args.d c.args.n c.args.divisor c.digits-count.result c.requires.some c.requires.divides (c.digits-count.ensures.under, c.digits-count.ensures.least) c.if-count-d.true in
     record { value = ap (λ (x : ℕ). x * 10 ^ 0) c.nearest.ensures ∙ r.0; short = subst (λ (x : ℕ). x ≤ 10 ^ c.args.d) (sym c.nearest.ensures) r.1; few = omega arith }
 
-pub overflow-mul-divisor : goal.overflow-mul-divisor
-overflow-mul-divisor c =
+pub overflow_mul-divisor : goal.overflow_mul-divisor
+overflow_mul-divisor c =
     let p : c.args.divisor * 10 ^ (c.digits-count.result - c.args.d) ≤ c.args.n =
     divisor_fits c.args.d c.args.n c.args.divisor c.digits-count.result c.requires.some c.if-count-d.false c.requires.divides (c.digits-count.ensures.under, c.digits-count.ensures.least) in
     record { fits = subst (λ (x : ℕ). c.args.divisor * x < 2 ^ 64) (sym c.power.ensures) (lt_of_le_of_lt p c.ranges.n.fits) }

@@ -16,11 +16,11 @@ returns-then-a-eq0 c = record { answer = split_nil_a c.args.d c.requires.least c
 pub returns-then-b-eq0 : goal.returns-then-b-eq0
 returns-then-b-eq0 c = record { answer = split_nil_b c.args.d c.requires.least c.args.a c.args.b c.if-b-eq0.true; number = (c.requires.right, c.requires.right) }
 
-pub returns-then-zeros-lt-ZEROS-OF-ONE : goal.returns-then-zeros-lt-ZEROS-OF-ONE
-returns-then-zeros-lt-ZEROS-OF-ONE c = record { answer = split_tiny c.args.d c.requires.least c.args.a c.args.b c.if-a-eq0.false c.if-b-eq0.false c.if-zeros-lt-ZEROS-OF-ONE.true; number = tt }
+pub returns-then-zeros-lt-ZEROS_OF_ONE : goal.returns-then-zeros-lt-ZEROS_OF_ONE
+returns-then-zeros-lt-ZEROS_OF_ONE c = record { answer = split_tiny c.args.d c.requires.least c.args.a c.args.b c.if-a-eq0.false c.if-b-eq0.false c.if-zeros-lt-ZEROS_OF_ONE.true; number = tt }
 
-pub split-form-requires : goal.split-form-requires
-split-form-requires c =
+pub split_form-requires : goal.split_form-requires
+split_form-requires c =
     let a = c.args.a in
     let b = c.args.b in
     let s = c.significands in
@@ -34,38 +34,38 @@ split-form-requires c =
       part = part c.args.d c.requires.least a b c.requires.left c.requires.right s.result.size s.ensures.size;
     }
 
-pub returns-in-err-main : goal.returns-in-err-main
-returns-in-err-main c =
+pub returns-in_err-main : goal.returns-in_err-main
+returns-in_err-main c =
     let s = c.significands in
-    let r = c.from-residual in
+    let r = c.from_residual in
     let n = product_split_not (meaning c.args.d) (units c.args.a) (units c.args.b)
-    (above c.args.d c.requires.least c.args.a c.args.b c.if-a-eq0.false c.if-b-eq0.false s.result.negative s.result.size s.ensures.value c.if-zeros-lt-ZEROS-OF-ONE.false c.in-err-main.ensures) in
+    (above c.args.d c.requires.least c.args.a c.args.b c.if-a-eq0.false c.if-b-eq0.false s.result.negative s.result.size s.ensures.value c.if-zeros-lt-ZEROS_OF_ONE.false c.in_err-main.ensures) in
     record {
       answer = subst (λ (o : Option (Scientific × Scientific)). split_valued units o ≡ product_split (meaning c.args.d) (units c.args.a) (units c.args.b)) (sym r.ensures) n;
       number = subst (λ (o : Option (Scientific × Scientific)). GivesBoth (meaning c.args.d) units o) (sym r.ensures) tt;
     }
 
-pub returns-then-not-below : goal.returns-then-not-below
-returns-then-not-below c =
+pub returns-then-not_below : goal.returns-then-not_below
+returns-then-not_below c =
     let s = c.significands in
-    let x = c.in-ok-main.main in
-    let y = c.in-ok-main.error in
-    let f = c.in-ok-main.ensures in
+    let x = c.in_ok-main.main in
+    let y = c.in_ok-main.error in
+    let f = c.in_ok-main.ensures in
     record {
-      answer = split_within c.args.d c.requires.least c.args.a c.args.b c.if-a-eq0.false c.if-b-eq0.false s.result.negative s.result.size s.ensures.value c.if-zeros-lt-ZEROS-OF-ONE.false x y f.0 f.1 (c.not_below.ensures.yes c.if-not-below.true);
+      answer = split_within c.args.d c.requires.least c.args.a c.args.b c.if-a-eq0.false c.if-b-eq0.false s.result.negative s.result.size s.ensures.value c.if-zeros-lt-ZEROS_OF_ONE.false x y f.0 f.1 (c.not_below.ensures.yes c.if-not_below.true);
       number = (
-        number c.args.d c.requires.least c.args.a c.args.b c.if-a-eq0.false c.if-b-eq0.false s.result.negative s.result.size s.ensures.value c.if-zeros-lt-ZEROS-OF-ONE.false x f.0,
+        number c.args.d c.requires.least c.args.a c.args.b c.if-a-eq0.false c.if-b-eq0.false s.result.negative s.result.size s.ensures.value c.if-zeros-lt-ZEROS_OF_ONE.false x f.0,
         number_of c.args.d (omega arith) y f.2,
       );
     }
 
-pub returns-else-not-below : goal.returns-else-not-below
-returns-else-not-below c =
+pub returns-else-not_below : goal.returns-else-not_below
+returns-else-not_below c =
     let s = c.significands in
-    let x = c.in-ok-main.main in
-    let f = c.in-ok-main.ensures in
+    let x = c.in_ok-main.main in
+    let f = c.in_ok-main.ensures in
     record {
       answer = product_split_not (meaning c.args.d) (units c.args.a) (units c.args.b)
-          (under c.args.d c.requires.least c.args.a c.args.b c.if-a-eq0.false c.if-b-eq0.false s.result.negative s.result.size s.ensures.value c.if-zeros-lt-ZEROS-OF-ONE.false x f.0 (c.not_below.ensures.no c.if-not-below.false));
+          (under c.args.d c.requires.least c.args.a c.args.b c.if-a-eq0.false c.if-b-eq0.false s.result.negative s.result.size s.ensures.value c.if-zeros-lt-ZEROS_OF_ONE.false x f.0 (c.not_below.ensures.no c.if-not_below.false));
       number = tt;
     }

@@ -15,14 +15,14 @@ small a b p gap e h = plain (a.significand * p) b.significand (subst (λ (x : �
     plain : (x y : ℕ) → x ≤ 10 ^ 18 → y < 10 ^ 8 → x + y < 2 ^ 62
     plain x y h k = omega arith
 
-pub overflow-mul-larger : goal.overflow-mul-larger
-overflow-mul-larger c = record { fits = less (c.args.coarse.significand * c.power.result) c.args.fine.significand (small c.args.coarse c.args.fine c.power.result c.args.gap c.power.ensures c.requires) }
+pub overflow_mul-larger : goal.overflow_mul-larger
+overflow_mul-larger c = record { fits = less (c.args.coarse.significand * c.power.result) c.args.fine.significand (small c.args.coarse c.args.fine c.power.result c.args.gap c.power.ensures c.requires) }
   where
     less : (x y : ℕ) → x + y < 2 ^ 62 → x < 2 ^ 64
     less x y h = omega arith
 
-pub whole-sum-requires : goal.whole-sum-requires
-whole-sum-requires c = less (c.args.coarse.significand * c.power.result + c.args.fine.significand) (small c.args.coarse c.args.fine c.power.result c.args.gap c.power.ensures c.requires)
+pub whole_sum-requires : goal.whole_sum-requires
+whole_sum-requires c = less (c.args.coarse.significand * c.power.result + c.args.fine.significand) (small c.args.coarse c.args.fine c.power.result c.args.gap c.power.ensures c.requires)
   where
     less : (x : ℕ) → x < 2 ^ 62 → x < 2 ^ 64
     less x h = omega arith
@@ -31,7 +31,7 @@ pub returns : goal.returns
 returns c =
     let a = c.args.coarse in
     let b = c.args.fine in
-    let s = c.whole-sum in
+    let s = c.whole_sum in
     record {
       value = s.ensures ∙ ap (λ (x : ℕ). signed a.negative (a.significand * x) +ℤ signed b.negative b.significand) c.power.ensures;
       small = no_more s.result.size (a.significand * c.power.result) b.significand (sum_size s.result.negative a.negative b.negative s.result.size (a.significand * c.power.result) b.significand s.ensures)

@@ -19,8 +19,8 @@ returns-then-gap-gt-FAR c =
       number = (c.requires.left, c.requires.right);
     }
 
-pub split-form-requires : goal.split-form-requires
-split-form-requires c =
+pub split_form-requires : goal.split_form-requires
+split_form-requires c =
     let a = c.args.coarse in
     let b = c.args.fine in
     let s = c.aligned.result in
@@ -39,9 +39,9 @@ returns c =
     let a = c.args.coarse in
     let b = c.args.fine in
     let s = c.aligned.result in
-    let r = c.split-form.result in
+    let r = c.split_form.result in
     let e = exact d c.requires.least c.requires.most a b c.requires.left c.requires.right s.negative s.size (a.zeros - b.zeros) (sub-add_cancel c.requires.order) c.aligned.ensures.value in
     let n = near_sum d c.requires.least c.requires.most a b c.requires.left c.requires.right s.negative s.size (a.zeros - b.zeros) (sub-add_cancel c.requires.order) c.aligned.ensures.value in
     let f = subst (λ (z : ℤ). SplitFormed d z (units a +ℤ units b) r) n
-    (subst (λ (z : ℤ). SplitFormed d (signed s.negative (size_of (rounded 10 d s.size 1) b.zeros)) z r) (sym e) c.split-form.ensures) in
+    (subst (λ (z : ℤ). SplitFormed d (signed s.negative (size_of (rounded 10 d s.size 1) b.zeros)) z r) (sym e) c.split_form.ensures) in
     record { answer = sum_split_answer d (omega arith) (units a) (units b) r f; number = sum_split_numbers d (omega arith) (units a) (units b) r f }

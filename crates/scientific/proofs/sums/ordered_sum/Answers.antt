@@ -14,14 +14,14 @@ returns-then-gap-gt-FAR c =
       number = c.requires.left;
     }
 
-pub rounded-form-requires : goal.rounded-form-requires
-rounded-form-requires c = let z : c.args.fine.zeros < 256 = search rules in record { some = omega arith; few = c.requires.most; near = omega arith }
+pub rounded_form-requires : goal.rounded_form-requires
+rounded_form-requires c = let z : c.args.fine.zeros < 256 = search rules in record { some = omega arith; few = c.requires.most; near = omega arith }
 
 pub returns : goal.returns
 returns c =
     let a = c.args.coarse in
     let b = c.args.fine in
     let s = c.aligned.result in
-    let f = subst (λ (z : ℤ). Formed z c.rounded-form.result)
-    (near_sum c.args.d c.requires.least c.requires.most a b c.requires.left c.requires.right s.negative s.size (a.zeros - b.zeros) (sub-add_cancel c.requires.order) c.aligned.ensures.value) c.rounded-form.ensures in
-    record { answer = sum_answer c.args.d (omega arith) (units a) (units b) c.rounded-form.result f; number = sum_number c.args.d (omega arith) (units a) (units b) c.rounded-form.result f }
+    let f = subst (λ (z : ℤ). Formed z c.rounded_form.result)
+    (near_sum c.args.d c.requires.least c.requires.most a b c.requires.left c.requires.right s.negative s.size (a.zeros - b.zeros) (sub-add_cancel c.requires.order) c.aligned.ensures.value) c.rounded_form.ensures in
+    record { answer = sum_answer c.args.d (omega arith) (units a) (units b) c.rounded_form.result f; number = sum_number c.args.d (omega arith) (units a) (units b) c.rounded_form.result f }
