@@ -1,14 +1,14 @@
 -- How a number is written. With the least k for which its size is below 10^d · 10^k, the size is a whole multiple of 10^k, since
 -- some m · 10^e with m below 10^d and so an e of at least k is equal to it. The quotient M is below 10^d, and at least 10^(d−1)
 -- unless k is 0: this is the one form, and it is admitted as that number.
-use Rattle.std.proofs.Common.{◌≡◌, ℕ, ◌+◌, ◌-◌, ◌*◌, ◌^◌, ◌<◌, ◌≤◌, Bool, true, false, cond, ◌&&◌, ◌||◌, eqb, ltb, leb, ◌⊎◌, ℤ, pos, negsuc, ◌-ℤ◌, ◌*ℤ◌, neg_ℤ, nat_abs, sym, refl, ap, ◌∙◌, subst, inl, inr, zero-le, le_trans, lt_of_mul-lt-mul_right, mul-lt-mul_of_pos_right, mul-pos, zero-mul, le_of_mul-le-mul_right, arith, lit<, lit≤, pow-add}
+use Rattle.std.proofs.Common.{◌≡◌, ℕ, ◌+◌, ◌-◌, ◌*◌, ◌^◌, ◌<◌, ◌≤◌, Bool, true, cond, ◌&&◌, ◌||◌, eqb, ltb, leb, ◌⊎◌, ℤ, pos, negsuc, ◌-ℤ◌, ◌*ℤ◌, neg_ℤ, nat_abs, sym, refl, ap, ◌∙◌, subst, inl, inr, zero-le, le_trans, lt_of_mul-lt-mul_right, mul-lt-mul_of_pos_right, mul-pos, zero-mul, le_of_mul-le-mul_right, arith, lit<, lit≤, pow-add}
 use native.Mathlib.Nat.{pow-succ', zero-div}
 use native.Mathlib.Decide.{dec_le, ℕ_discrete}
 use lib.Signed.{quot_z}
 use Rattle.std.proofs.lemmas.Int.{ints}
 use Rattle.std.proofs.lemmas.Bool.Decides.{nat_tests}
 use Rattle.integers.proofs.Integers.{abs_mul, quot_exact}
-use Rattle.integers.proofs.Ring.{ring, at, num, ◌⊗◌, ⊖◌}
+use Rattle.integers.proofs.Ring.{ring, num, ◌⊗◌, ⊖◌}
 use Rattle.integers.proofs.Naturals.{before}
 use Rattle.integers.proofs.Tests.{eqb_no}
 use Rattle.rounding.specs.Digits.{Digits}
