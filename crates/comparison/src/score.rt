@@ -1,5 +1,5 @@
 // How many answers agree with the expected ones, of those that were compared. The counts stop at the largest of their type.
-ghost use Rattle.std.specs.Prelude.{◌≡◌, ◌+◌, ◌-◌, ◌^◌, min, ◌++◌, if◌then◌else◌, Some, codes, decimal, ◌==◌};
+ghost use Rattle.std.specs.Prelude.{◌≡◌, ◌+◌, ◌-◌, ◌^◌, min, ◌++◌, if◌then◌else◌, Some, codes, decimal, IsTrue, ◌↔◌};
 
 use std::fmt;
 
@@ -41,7 +41,7 @@ impl Score {
 
     // Whether all agree.
     pub fn is_whole(self) -> bool
-        ensures { result ≡ (self.agree == self.compared) }
+        ensures { IsTrue result ↔ (self.agree ≡ self.compared) }
     {
         self.agree == self.compared
     }
