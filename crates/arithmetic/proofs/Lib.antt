@@ -3,4 +3,3 @@ pub mod Accepted
 pub mod Answers
 pub mod RadixRules
 pub mod Formats
-pub mod Kept

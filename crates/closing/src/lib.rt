@@ -4,7 +4,7 @@
 ghost use Rattle.std.specs.Prelude.{◌≡◌, ◌≤◌, int_lt};
 ghost use Rattle.arithmetic.specs.Meaning.{Number as IsNumber};
 ghost use Rattle.coefficients.specs.Exact.{signed};
-ghost use Rattle.coefficients.specs.Closing.{closed, close as CloseOf, verdict as verdict_of};
+ghost use Rattle.coefficients.specs.Closing.{closed, close as close_of, verdict as verdict_of};
 ghost use Rattle.row.specs.Reading.{reading, values, AreNumbers};
 ghost use Rattle.closing.specs.Closings.{closing, judging, GivesNumbers};
 
@@ -72,7 +72,7 @@ fn close_order<A: Arithmetic>(
     requires law { A.Arithmetic.lawful arith.old }
     requires numbers { AreNumbers (A.Arithmetic.setting arith.old).meaning A.Arithmetic.value cell }
     requires few { n ≤ 64 }
-    ensures answer { closing A.Arithmetic.value result ≡ CloseOf (A.Arithmetic.setting arith.old).meaning (values A.Arithmetic.value cell) n k }
+    ensures answer { closing A.Arithmetic.value result ≡ close_of (A.Arithmetic.setting arith.old).meaning (values A.Arithmetic.value cell) n k }
     ensures number { GivesNumbers (A.Arithmetic.setting arith.old).meaning A.Arithmetic.value result }
     ensures same { A.Arithmetic.setting arith.new ≡ A.Arithmetic.setting arith.old }
     ensures law { A.Arithmetic.lawful arith.new }
@@ -92,7 +92,7 @@ pub fn close<A: Arithmetic>(
 ) -> Result<(A::Number, A::Number), u8>
     requires law { A.Arithmetic.lawful arith.old }
     requires few { n ≤ 64 }
-    ensures answer { closing A.Arithmetic.value result ≡ CloseOf (A.Arithmetic.setting arith.old).meaning (reading (A.Arithmetic.setting arith.old) cell) n k }
+    ensures answer { closing A.Arithmetic.value result ≡ close_of (A.Arithmetic.setting arith.old).meaning (reading (A.Arithmetic.setting arith.old) cell) n k }
     ensures number { GivesNumbers (A.Arithmetic.setting arith.old).meaning A.Arithmetic.value result }
     ensures same { A.Arithmetic.setting arith.new ≡ A.Arithmetic.setting arith.old }
     ensures law { A.Arithmetic.lawful arith.new }
