@@ -1,4 +1,7 @@
 // How many cards and calls agree with the expected ones.
+ghost use Rattle.std.specs.Prelude.{◌≡◌};
+ghost use Rattle.cards.specs.Tallies.{no_cards, noted};
+
 use comparison::score::Score;
 use std::fmt;
 
@@ -10,7 +13,9 @@ pub struct Tally {
 }
 
 impl Tally {
-    pub fn new() -> Tally {
+    pub fn new() -> Tally
+        ensures { result ≡ no_cards }
+    {
         Tally {
             cards: Score::new(),
             calls: Score::new(),
@@ -18,7 +23,9 @@ impl Tally {
     }
 
     // Counts a card, given the score of its calls.
-    pub fn note(&mut self, calls: Score) {
+    pub fn note(&mut self, calls: Score)
+        ensures { self.new ≡ noted self.old calls }
+    {
         self.cards.note(calls.is_whole());
         self.calls.gather(calls);
     }

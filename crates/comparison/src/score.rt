@@ -1,5 +1,6 @@
 // How many answers agree with the expected ones, of those that were compared. The counts stop at the largest of their type.
-ghost use Rattle.std.specs.Prelude.{◌≡◌, ◌+◌, ◌-◌, ◌^◌, min, ◌++◌, if◌then◌else◌, Some, codes, decimal, IsTrue, ◌↔◌};
+ghost use Rattle.std.specs.Prelude.{◌≡◌, ◌++◌, Some, codes, decimal, IsTrue, ◌↔◌};
+ghost use Rattle.comparison.specs.Scores.{no_answers, counted, gathered};
 
 use std::fmt;
 
@@ -11,7 +12,7 @@ pub struct Score {
 
 impl Score {
     pub fn new() -> Score
-        ensures { result ≡ record { agree = 0; compared = 0 } }
+        ensures { result ≡ no_answers }
     {
         Score {
             agree: 0,
@@ -21,8 +22,7 @@ impl Score {
 
     // Counts one answer.
     pub fn note(&mut self, agrees: bool)
-        ensures agree { self.new.agree ≡ (if agrees then min (self.old.agree + 1) (2 ^ 32 - 1) else self.old.agree) }
-        ensures compared { self.new.compared ≡ min (self.old.compared + 1) (2 ^ 32 - 1) }
+        ensures { self.new ≡ counted self.old agrees }
     {
         self.compared = self.compared.saturating_add(1);
         if agrees {
@@ -32,8 +32,7 @@ impl Score {
 
     // Counts what another score has counted.
     pub fn gather(&mut self, other: Score)
-        ensures agree { self.new.agree ≡ min (self.old.agree + other.agree) (2 ^ 32 - 1) }
-        ensures compared { self.new.compared ≡ min (self.old.compared + other.compared) (2 ^ 32 - 1) }
+        ensures { self.new ≡ gathered self.old other }
     {
         self.agree = self.agree.saturating_add(other.agree);
         self.compared = self.compared.saturating_add(other.compared);

@@ -1,4 +1,7 @@
 // How many answers agree with the outside library's, for each operation.
+ghost use Rattle.std.specs.Prelude.{◌≡◌};
+ghost use Rattle.vectors.specs.Tallies.{no_vectors, noted};
+
 use comparison::score::Score;
 use std::fmt;
 
@@ -25,7 +28,9 @@ pub struct Tally {
 }
 
 impl Tally {
-    pub fn new() -> Tally {
+    pub fn new() -> Tally
+        ensures { result ≡ no_vectors }
+    {
         Tally {
             sum: Score::new(),
             split_sum: Score::new(),
@@ -37,7 +42,10 @@ impl Tally {
         }
     }
 
-    pub fn note(&mut self, operation: Operation, agrees: bool) {
+    // Counts one answer of an operation.
+    pub fn note(&mut self, operation: Operation, agrees: bool)
+        ensures { self.new ≡ noted self.old operation agrees }
+    {
         match operation {
             Operation::Sum => self.sum.note(agrees),
             Operation::SplitSum => self.split_sum.note(agrees),
