@@ -3,3 +3,4 @@ pub mod Accepted
 pub mod Answers
 pub mod RadixRules
 pub mod Formats
+pub mod Mains
