@@ -23,6 +23,7 @@ pub trait Arithmetic: Sized {
     ghost value: { Self.Number → ℤ };
 
     // The rounded sum.
+    #[tactic(auto, using(crate::proofs::Mains::sum_refused, crate::proofs::Mains::sum_given))]
     fn sum(&mut self, a: Self::Number, b: Self::Number) -> Option<Self::Number>
         requires left { IsNumber (setting self.old).meaning (value a) }
         requires right { IsNumber (setting self.old).meaning (value b) }
@@ -33,6 +34,7 @@ pub trait Arithmetic: Sized {
     }
 
     // The rounded product.
+    #[tactic(auto, using(crate::proofs::Mains::product_refused, crate::proofs::Mains::product_given))]
     fn product(&mut self, a: Self::Number, b: Self::Number) -> Option<Self::Number>
         requires left { IsNumber (setting self.old).meaning (value a) }
         requires right { IsNumber (setting self.old).meaning (value b) }

@@ -30,17 +30,7 @@ impl Arithmetic for Binary64 {
 
     ghost value = { units };
 
-    ghost lawful = { λ _. Unit {0} };
-
-    ghost rules = { λ s h. TheRules.rules };
-
-    fn sum(&mut self, a: Double, b: Double) -> Option<Double> {
-        sums::sum(a, b)
-    }
-
-    fn product(&mut self, a: Double, b: Double) -> Option<Double> {
-        products::product(a, b)
-    }
+    ghost rules = { λ s. TheRules.rules };
 
     fn split_sum(&mut self, a: Double, b: Double) -> Option<(Double, Double)> {
         sums::split_sum(a, b)

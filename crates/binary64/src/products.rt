@@ -1,7 +1,7 @@
 // Products, refused outside the limits unless a factor is zero. The range is tested first: only where it fails is a zero factor looked for.
 ghost use Rattle.std.specs.Prelude.{◌≡◌};
-ghost use Rattle.arithmetic.specs.Operations.{product as rounded_product, product_split};
-ghost use Rattle.arithmetic.specs.Setting.{valued, split_valued, Gives, GivesBoth};
+ghost use Rattle.arithmetic.specs.Operations.{product_split};
+ghost use Rattle.arithmetic.specs.Setting.{split_valued, GivesBoth};
 ghost use Rattle.binary64.specs.Patterns.{meaning};
 ghost use Rattle.binary64.specs.Doubles.{units};
 
@@ -9,21 +9,6 @@ use crate::double::Double;
 use crate::exact::zero;
 use crate::limits::{in_range, one_zero};
 use crate::steps::product_error;
-
-// The rounded product.
-pub(crate) fn product(a: Double, b: Double) -> Option<Double>
-    ensures answer { valued units result ≡ rounded_product meaning (units a) (units b) }
-    ensures number { Gives meaning units result }
-{
-    let x = a.x * b.x;
-    if in_range(x) {
-        return Some(Double { x });
-    }
-    if one_zero(a.x, b.x) {
-        return Some(zero());
-    }
-    None
-}
 
 // The rounded product and its error part, which is computed only where the product is in range.
 pub(crate) fn split_product(a: Double, b: Double) -> Option<(Double, Double)>

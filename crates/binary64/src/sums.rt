@@ -1,25 +1,13 @@
 // Sums, refused above 2^900.
 ghost use Rattle.std.specs.Prelude.{◌≡◌};
-ghost use Rattle.arithmetic.specs.Operations.{sum as rounded_sum, sum_split};
-ghost use Rattle.arithmetic.specs.Setting.{valued, split_valued, Gives, GivesBoth};
+ghost use Rattle.arithmetic.specs.Operations.{sum_split};
+ghost use Rattle.arithmetic.specs.Setting.{split_valued, GivesBoth};
 ghost use Rattle.binary64.specs.Patterns.{meaning};
 ghost use Rattle.binary64.specs.Doubles.{units};
 
 use crate::double::Double;
 use crate::limits::at_most_high;
 use crate::steps::two_sum;
-
-// The rounded sum.
-pub(crate) fn sum(a: Double, b: Double) -> Option<Double>
-    ensures answer { valued units result ≡ rounded_sum meaning (units a) (units b) }
-    ensures number { Gives meaning units result }
-{
-    let x = a.x + b.x;
-    if !at_most_high(x) {
-        return None;
-    }
-    Some(Double { x })
-}
 
 // The rounded sum and its error part.
 pub(crate) fn split_sum(a: Double, b: Double) -> Option<(Double, Double)>
