@@ -55,7 +55,6 @@ fn cell_at<P: Copy>(row: &[Cell<P>], k: usize) -> Cell<P>
 impl<'r, A: Arithmetic> Bench<'r, A> {
     // A new bench over a row of 2 to 65 cells, which may hold anything: every cell is written. It carries the law over books.
     pub fn make(arith: &A, row: &'r mut [Cell<A::Plain>], number: u16) -> Bench<'r, A>
-        requires law { A.Arithmetic.lawful arith.now }
         requires cells { 2 ≤ length row.old }
         requires few { length row.old ≤ 65 }
         ensures made { making_of (A.Arithmetic.setting arith.now) result ≡ record { meaning = (A.Arithmetic.setting arith.now).meaning; bench_number = number; K = length row.old - 1 } }
@@ -69,7 +68,6 @@ impl<'r, A: Arithmetic> Bench<'r, A> {
     }
 
     fn start(arith: &A, row: &'r mut [Cell<A::Plain>], number: u16) -> Bench<'r, A>
-        requires law { A.Arithmetic.lawful arith.now }
         requires cells { 2 ≤ length row.old }
         requires few { length row.old ≤ 65 }
         ensures made { making_of (A.Arithmetic.setting arith.now) result ≡ record { meaning = (A.Arithmetic.setting arith.now).meaning; bench_number = number; K = length row.old - 1 } }
@@ -90,7 +88,6 @@ impl<'r, A: Arithmetic> Bench<'r, A> {
 
     // Adds a zero, given by its eight bytes, and answers its number. Refusals: 17, 2, 3, 4, 5.
     pub fn add(&mut self, arith: &mut A, bytes: &[u8; 8]) -> Result<u8, Refusal>
-        requires law { A.Arithmetic.lawful arith.old }
         requires standing { Standing self.old }
         ensures called { AnswersCall (A.Arithmetic.setting arith.old) self.old self.new (add_call bytes.now) (told_added result) }
         ensures cells { AdditionLeaves (A.Arithmetic.setting arith.old) (min (suc self.old.held) (length self.old.row.now - 1)) (accepted (told_added result)) self.old.row.now self.new.row.now }
@@ -98,7 +95,6 @@ impl<'r, A: Arithmetic> Bench<'r, A> {
         ensures counts { self.new.out ≡ self.old.out }
         ensures lender { self.new.row.ghost_name ≡ self.old.row.ghost_name }
         ensures same { A.Arithmetic.setting arith.new ≡ A.Arithmetic.setting arith.old }
-        ensures law { A.Arithmetic.lawful arith.new }
     {
         let number = self.held + 1;
         self.add_as(arith, bytes, number)
@@ -106,7 +102,6 @@ impl<'r, A: Arithmetic> Bench<'r, A> {
 
     // Adds a zero as the one with the given number.
     fn add_as(&mut self, arith: &mut A, bytes: &[u8; 8], number: u8) -> Result<u8, Refusal>
-        requires law { A.Arithmetic.lawful arith.old }
         requires standing { Standing self.old }
         requires next { number ≡ suc self.old.held }
         ensures called { AnswersCall (A.Arithmetic.setting arith.old) self.old self.new (add_call bytes.now) (told_added result) }
@@ -115,7 +110,6 @@ impl<'r, A: Arithmetic> Bench<'r, A> {
         ensures counts { self.new.out ≡ self.old.out }
         ensures lender { self.new.row.ghost_name ≡ self.old.row.ghost_name }
         ensures same { A.Arithmetic.setting arith.new ≡ A.Arithmetic.setting arith.old }
-        ensures law { A.Arithmetic.lawful arith.new }
     {
         let x = arith.admit(bytes)?;
         if self.out > 0 {
@@ -135,7 +129,6 @@ impl<'r, A: Arithmetic> Bench<'r, A> {
 
     // Makes the row new and forgets the zeros. Refusal: 2.
     pub fn clear(&mut self, arith: &A) -> Result<(), Refusal>
-        requires law { A.Arithmetic.lawful arith.now }
         requires standing { Standing self.old }
         ensures called { AnswersCall (A.Arithmetic.setting arith.now) self.old self.new clear_call (told_cleared result) }
         ensures cells { ClearingLeaves (A.Arithmetic.setting arith.now) (accepted (told_cleared result)) self.old.row.now self.new.row.now }
@@ -149,7 +142,6 @@ impl<'r, A: Arithmetic> Bench<'r, A> {
 
     // Clears the bench if it is free: no question is out.
     fn clear_if(&mut self, arith: &A, free: bool) -> Result<(), Refusal>
-        requires law { A.Arithmetic.lawful arith.now }
         requires standing { Standing self.old }
         requires free { free ≡ (self.old.out == 0) }
         ensures called { AnswersCall (A.Arithmetic.setting arith.now) self.old self.new clear_call (told_cleared result) }
@@ -189,25 +181,21 @@ impl<'r, A: Arithmetic> Bench<'r, A> {
 
     // The value and the error bound of the coefficient of order k. Refusals: 6, 7, 8.
     pub fn ask(&self, arith: &mut A, k: u8) -> Result<(A::Number, A::Number), Refusal>
-        requires law { A.Arithmetic.lawful arith.old }
         requires standing { Standing self.now }
         ensures called { AnswersCall (A.Arithmetic.setting arith.old) self.now self.now (ask_call k) (told_asked A.Arithmetic.value result) }
         ensures numbers { GivesNumbers (A.Arithmetic.setting arith.old).meaning A.Arithmetic.value result }
         ensures same { A.Arithmetic.setting arith.new ≡ A.Arithmetic.setting arith.old }
-        ensures law { A.Arithmetic.lawful arith.new }
     {
         self.ask_among(arith, k, self.held)
     }
 
     // Asks an order, where n zeros are held.
     fn ask_among(&self, arith: &mut A, k: u8, n: u8) -> Result<(A::Number, A::Number), Refusal>
-        requires law { A.Arithmetic.lawful arith.old }
         requires standing { Standing self.now }
         requires held { n ≡ self.now.held }
         ensures called { AnswersCall (A.Arithmetic.setting arith.old) self.now self.now (ask_call k) (told_asked A.Arithmetic.value result) }
         ensures numbers { GivesNumbers (A.Arithmetic.setting arith.old).meaning A.Arithmetic.value result }
         ensures same { A.Arithmetic.setting arith.new ≡ A.Arithmetic.setting arith.old }
-        ensures law { A.Arithmetic.lawful arith.new }
     {
         self.check_order(k, n)?;
         let cell = cell_at(self.row, k as usize);
@@ -219,7 +207,6 @@ impl<'r, A: Arithmetic> Bench<'r, A> {
 
     // Issues a question of order k. Refusals: 6, 7, 9.
     pub fn issue(&mut self, arith: &A, k: u8) -> Result<Question, Refusal>
-        requires law { A.Arithmetic.lawful arith.now }
         requires standing { Standing self.old }
         ensures called { AnswersCall (A.Arithmetic.setting arith.now) self.old self.new (issue_call k) (told_issued result) }
         ensures cells { self.new.row.now ≡ self.old.row.now }
@@ -235,7 +222,6 @@ impl<'r, A: Arithmetic> Bench<'r, A> {
 
     // Issues a question, where n zeros are held.
     fn issue_among(&mut self, arith: &A, k: u8, n: u8) -> Result<Question, Refusal>
-        requires law { A.Arithmetic.lawful arith.now }
         requires standing { Standing self.old }
         requires held { n ≡ self.old.held }
         ensures called { AnswersCall (A.Arithmetic.setting arith.now) self.old self.new (issue_call k) (told_issued result) }
@@ -266,7 +252,6 @@ impl<'r, A: Arithmetic> Bench<'r, A> {
         claim: &[u8; 8],
         tolerance: &[u8; 8],
     ) -> Result<Verdict, GivenBack>
-        requires law { A.Arithmetic.lawful arith.old }
         requires standing { Standing self.old }
         ensures called { AnswersCall (A.Arithmetic.setting arith.old) self.old self.new (mark_call question.bench question.order claim.now tolerance.now) (told_marked result) }
         ensures back { GivesBack question result }
@@ -275,7 +260,6 @@ impl<'r, A: Arithmetic> Bench<'r, A> {
         ensures lender { self.new.row.ghost_name ≡ self.old.row.ghost_name }
         ensures counts { OneLess result self.old.out self.new.out }
         ensures same { A.Arithmetic.setting arith.new ≡ A.Arithmetic.setting arith.old }
-        ensures law { A.Arithmetic.lawful arith.new }
     {
         self.mark_admitted(arith, question, claim, tolerance)
     }
@@ -288,7 +272,6 @@ impl<'r, A: Arithmetic> Bench<'r, A> {
         claim: &[u8; 8],
         tolerance: &[u8; 8],
     ) -> Result<Verdict, GivenBack>
-        requires law { A.Arithmetic.lawful arith.old }
         requires standing { Standing self.old }
         ensures called { AnswersCall (A.Arithmetic.setting arith.old) self.old self.new (mark_call question.bench question.order claim.now tolerance.now) (told_marked result) }
         ensures back { GivesBack question result }
@@ -297,7 +280,6 @@ impl<'r, A: Arithmetic> Bench<'r, A> {
         ensures lender { self.new.row.ghost_name ≡ self.old.row.ghost_name }
         ensures counts { OneLess result self.old.out self.new.out }
         ensures same { A.Arithmetic.setting arith.new ≡ A.Arithmetic.setting arith.old }
-        ensures law { A.Arithmetic.lawful arith.new }
     {
         match self.judge_claim(arith, &question, claim, tolerance) {
             Ok(verdict) => {
@@ -317,12 +299,10 @@ impl<'r, A: Arithmetic> Bench<'r, A> {
         claim: &[u8; 8],
         tolerance: &[u8; 8],
     ) -> Result<Verdict, Refusal>
-        requires law { A.Arithmetic.lawful arith.old }
         requires standing { Standing self.now }
         ensures step { marking_step (state_of (A.Arithmetic.setting arith.old) self.now) result ≡ step (making_of (A.Arithmetic.setting arith.old) self.now) (state_of (A.Arithmetic.setting arith.old) self.now) (mark_call question.now.bench question.now.order claim.now tolerance.now) }
         ensures out { JudgedOut result self.now.out }
         ensures same { A.Arithmetic.setting arith.new ≡ A.Arithmetic.setting arith.old }
-        ensures law { A.Arithmetic.lawful arith.new }
     {
         let claimed = arith.admit(claim)?;
         let allowed = arith.admit(tolerance)?;
@@ -337,14 +317,12 @@ impl<'r, A: Arithmetic> Bench<'r, A> {
         claim: A::Number,
         tolerance: A::Number,
     ) -> Result<Verdict, Refusal>
-        requires law { A.Arithmetic.lawful arith.old }
         requires standing { Standing self.now }
         requires claim { IsNumber (A.Arithmetic.setting arith.old).meaning (A.Arithmetic.value claim) }
         requires tolerance { IsNumber (A.Arithmetic.setting arith.old).meaning (A.Arithmetic.value tolerance) }
         ensures step { marking_step (state_of (A.Arithmetic.setting arith.old) self.now) result ≡ mark_numbers (making_of (A.Arithmetic.setting arith.old) self.now) (state_of (A.Arithmetic.setting arith.old) self.now) question.now.bench question.now.order (A.Arithmetic.value claim) (A.Arithmetic.value tolerance) }
         ensures out { JudgedOut result self.now.out }
         ensures same { A.Arithmetic.setting arith.new ≡ A.Arithmetic.setting arith.old }
-        ensures law { A.Arithmetic.lawful arith.new }
     {
         if !self.is_out(question) {
             return Err(Refusal::NotOut);
@@ -368,7 +346,6 @@ impl<'r, A: Arithmetic> Bench<'r, A> {
 
     // Withdraws a question. Refusal: 10, which gives the question back.
     pub fn withdraw(&mut self, arith: &A, question: Question) -> Result<(), GivenBack>
-        requires law { A.Arithmetic.lawful arith.now }
         requires standing { Standing self.old }
         ensures called { AnswersCall (A.Arithmetic.setting arith.now) self.old self.new (withdraw_call question.bench question.order) (told_withdrawn result) }
         ensures back { GivesBack question result }
@@ -384,7 +361,6 @@ impl<'r, A: Arithmetic> Bench<'r, A> {
 
     // Withdraws a question if it is out.
     fn withdraw_if(&mut self, arith: &A, question: Question, out: bool) -> Result<(), GivenBack>
-        requires law { A.Arithmetic.lawful arith.now }
         requires standing { Standing self.old }
         requires out { out ≡ question_out question.bench self.old.number self.old.out }
         ensures called { AnswersCall (A.Arithmetic.setting arith.now) self.old self.new (withdraw_call question.bench question.order) (told_withdrawn result) }

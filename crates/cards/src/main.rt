@@ -43,9 +43,7 @@ fn check<A: Arithmetic>(
     arith: &mut A,
     line: &str,
 ) -> anyhow::Result<bool>
-    requires law { A.Arithmetic.lawful arith.old }
     requires standing { Standing bench.old }
-    ensures law { A.Arithmetic.lawful arith.new }
     ensures standing { Standing bench.new }
 {
     if let Some((question, expected)) = line.split_once(" = ") {
@@ -65,7 +63,6 @@ fn work_on<A: Arithmetic>(
     row: &mut [Cell<A::Plain>],
     lines: &str,
 ) -> anyhow::Result<Score>
-    requires law { A.Arithmetic.lawful arith.old }
     requires cells { 2 ≤ length row.old }
     requires few { length row.old ≤ 65 }
 {
@@ -87,7 +84,6 @@ fn work_card<A: Arithmetic>(
     k: u8,
     lines: &str,
 ) -> anyhow::Result<Score>
-    requires law { A.Arithmetic.lawful arith.old }
     requires cells { length row.old ≡ 65 }
 {
     if k == 0 || k > 64 {
@@ -101,7 +97,6 @@ fn work_card<A: Arithmetic>(
 
 // A cell of zeros.
 fn empty<A: Arithmetic>(arith: &A) -> Cell<A::Plain>
-    requires law { A.Arithmetic.lawful arith.now }
 {
     let zero = arith.plain(arith.zero());
     Cell {

@@ -10,9 +10,7 @@ use bench::question::{GivenBack, Question};
 use comparison::pattern::Pattern;
 
 fn add<A: Arithmetic>(bench: &mut Bench<A>, arith: &mut A, zero: &[u8; 8]) -> Answer
-    requires law { A.Arithmetic.lawful arith.old }
     requires standing { Standing bench.old }
-    ensures law { A.Arithmetic.lawful arith.new }
     ensures standing { Standing bench.new }
 {
     match bench.add(arith, zero) {
@@ -22,9 +20,7 @@ fn add<A: Arithmetic>(bench: &mut Bench<A>, arith: &mut A, zero: &[u8; 8]) -> An
 }
 
 fn ask<A: Arithmetic>(bench: &Bench<A>, arith: &mut A, order: u8) -> Answer
-    requires law { A.Arithmetic.lawful arith.old }
     requires standing { Standing bench.now }
-    ensures law { A.Arithmetic.lawful arith.new }
 {
     match bench.ask(arith, order) {
         Ok(coefficient) => {
@@ -45,11 +41,9 @@ fn settle<A: Arithmetic>(
     claim: &[u8; 8],
     tolerance: &[u8; 8],
 ) -> Answer
-    requires law { A.Arithmetic.lawful arith.old }
     requires standing { Standing bench.old }
     requires own { question.bench ≡ bench.old.number }
     requires out { 0 < bench.old.out }
-    ensures law { A.Arithmetic.lawful arith.new }
     ensures standing { Standing bench.new }
 {
     match bench.mark(arith, question, claim, tolerance) {
@@ -72,9 +66,7 @@ fn mark<A: Arithmetic>(
     claim: &[u8; 8],
     tolerance: &[u8; 8],
 ) -> Answer
-    requires law { A.Arithmetic.lawful arith.old }
     requires standing { Standing bench.old }
-    ensures law { A.Arithmetic.lawful arith.new }
     ensures standing { Standing bench.new }
 {
     match bench.issue(arith, order) {
@@ -85,9 +77,7 @@ fn mark<A: Arithmetic>(
 
 // Works a call.
 pub fn work<A: Arithmetic>(bench: &mut Bench<A>, arith: &mut A, call: Call) -> Answer
-    requires law { A.Arithmetic.lawful arith.old }
     requires standing { Standing bench.old }
-    ensures law { A.Arithmetic.lawful arith.new }
     ensures standing { Standing bench.new }
 {
     match call {

@@ -17,7 +17,6 @@ pub mod verdict;
 
 // v for even k, its negative for odd k.
 fn with_sign<A: Arithmetic>(arith: &A, v: A::Number, k: u8) -> A::Number
-    requires law { A.Arithmetic.lawful arith.now }
     requires number { IsNumber (A.Arithmetic.setting arith.now).meaning (A.Arithmetic.value v) }
     ensures answer { A.Arithmetic.value result ≡ signed k (A.Arithmetic.value v) }
     ensures number { IsNumber (A.Arithmetic.setting arith.now).meaning (A.Arithmetic.value result) }
@@ -32,13 +31,11 @@ fn close_numbers<A: Arithmetic>(
     n: u8,
     k: u8,
 ) -> Result<(A::Number, A::Number), u8>
-    requires law { A.Arithmetic.lawful arith.old }
     requires numbers { AreNumbers (A.Arithmetic.setting arith.old).meaning A.Arithmetic.value cell }
     requires few { n ≤ 64 }
     ensures answer { closing A.Arithmetic.value result ≡ closed (A.Arithmetic.setting arith.old).meaning (values A.Arithmetic.value cell) n k }
     ensures number { GivesNumbers (A.Arithmetic.setting arith.old).meaning A.Arithmetic.value result }
     ensures same { A.Arithmetic.setting arith.new ≡ A.Arithmetic.setting arith.old }
-    ensures law { A.Arithmetic.lawful arith.new }
 {
     let Some((v, c)) = arith.split_sum(cell.sum, cell.correction) else {
         return Err(1);
@@ -69,13 +66,11 @@ fn close_order<A: Arithmetic>(
     n: u8,
     k: u8,
 ) -> Result<(A::Number, A::Number), u8>
-    requires law { A.Arithmetic.lawful arith.old }
     requires numbers { AreNumbers (A.Arithmetic.setting arith.old).meaning A.Arithmetic.value cell }
     requires few { n ≤ 64 }
     ensures answer { closing A.Arithmetic.value result ≡ close_of (A.Arithmetic.setting arith.old).meaning (values A.Arithmetic.value cell) n k }
     ensures number { GivesNumbers (A.Arithmetic.setting arith.old).meaning A.Arithmetic.value result }
     ensures same { A.Arithmetic.setting arith.new ≡ A.Arithmetic.setting arith.old }
-    ensures law { A.Arithmetic.lawful arith.new }
 {
     if k == 0 {
         return Ok((arith.one(), arith.zero()));
@@ -90,12 +85,10 @@ pub fn close<A: Arithmetic>(
     n: u8,
     k: u8,
 ) -> Result<(A::Number, A::Number), u8>
-    requires law { A.Arithmetic.lawful arith.old }
     requires few { n ≤ 64 }
     ensures answer { closing A.Arithmetic.value result ≡ close_of (A.Arithmetic.setting arith.old).meaning (reading (A.Arithmetic.setting arith.old) cell) n k }
     ensures number { GivesNumbers (A.Arithmetic.setting arith.old).meaning A.Arithmetic.value result }
     ensures same { A.Arithmetic.setting arith.new ≡ A.Arithmetic.setting arith.old }
-    ensures law { A.Arithmetic.lawful arith.new }
 {
     let numbers = read(arith, cell);
     close_order(arith, numbers, n, k)
@@ -103,7 +96,6 @@ pub fn close<A: Arithmetic>(
 
 // Whether a is below b.
 fn is_below<A: Arithmetic>(arith: &A, a: A::Number, b: A::Number) -> bool
-    requires law { A.Arithmetic.lawful arith.now }
     requires left { IsNumber (A.Arithmetic.setting arith.now).meaning (A.Arithmetic.value a) }
     requires right { IsNumber (A.Arithmetic.setting arith.now).meaning (A.Arithmetic.value b) }
     ensures { result ≡ int_lt (A.Arithmetic.value a) (A.Arithmetic.value b) }
@@ -119,14 +111,12 @@ fn judge_value<A: Arithmetic>(
     claim: A::Number,
     tolerance: A::Number,
 ) -> Result<Verdict, u8>
-    requires law { A.Arithmetic.lawful arith.old }
     requires value { IsNumber (A.Arithmetic.setting arith.old).meaning (A.Arithmetic.value value) }
     requires bound { IsNumber (A.Arithmetic.setting arith.old).meaning (A.Arithmetic.value bound) }
     requires claim { IsNumber (A.Arithmetic.setting arith.old).meaning (A.Arithmetic.value claim) }
     requires tolerance { IsNumber (A.Arithmetic.setting arith.old).meaning (A.Arithmetic.value tolerance) }
     ensures answer { judging result ≡ verdict_of (A.Arithmetic.setting arith.old).meaning (record { value = A.Arithmetic.value value; bound = A.Arithmetic.value bound }) (A.Arithmetic.value claim) (A.Arithmetic.value tolerance) }
     ensures same { A.Arithmetic.setting arith.new ≡ A.Arithmetic.setting arith.old }
-    ensures law { A.Arithmetic.lawful arith.new }
 {
     let Some(difference) = arith.sum(claim, arith.negative(value)) else {
         return Err(1);
@@ -160,14 +150,12 @@ pub fn judge<A: Arithmetic>(
     claim: A::Number,
     tolerance: A::Number,
 ) -> Result<Verdict, u8>
-    requires law { A.Arithmetic.lawful arith.old }
     requires value { IsNumber (A.Arithmetic.setting arith.old).meaning (A.Arithmetic.value coefficient.0) }
     requires bound { IsNumber (A.Arithmetic.setting arith.old).meaning (A.Arithmetic.value coefficient.1) }
     requires claim { IsNumber (A.Arithmetic.setting arith.old).meaning (A.Arithmetic.value claim) }
     requires tolerance { IsNumber (A.Arithmetic.setting arith.old).meaning (A.Arithmetic.value tolerance) }
     ensures answer { judging result ≡ verdict_of (A.Arithmetic.setting arith.old).meaning (record { value = A.Arithmetic.value coefficient.0; bound = A.Arithmetic.value coefficient.1 }) (A.Arithmetic.value claim) (A.Arithmetic.value tolerance) }
     ensures same { A.Arithmetic.setting arith.new ≡ A.Arithmetic.setting arith.old }
-    ensures law { A.Arithmetic.lawful arith.new }
 {
     let (value, bound) = coefficient;
     judge_value(arith, value, bound, claim, tolerance)

@@ -14,7 +14,6 @@ pub mod cell;
 
 // The numbers of a cell.
 pub fn read<A: Arithmetic>(arith: &A, cell: Cell<A::Plain>) -> Numbers<A::Number>
-    requires { A.Arithmetic.lawful arith.now }
     ensures answer { values A.Arithmetic.value result ≡ reading (A.Arithmetic.setting arith.now) cell }
     ensures number { AreNumbers (A.Arithmetic.setting arith.now).meaning A.Arithmetic.value result }
 {
@@ -32,14 +31,12 @@ fn update<A: Arithmetic>(
     old: Numbers<A::Number>,
     before: Numbers<A::Number>,
 ) -> Result<Cell<A::Plain>, u8>
-    requires law { A.Arithmetic.lawful arith.old }
     requires number { IsNumber (A.Arithmetic.setting arith.old).meaning (A.Arithmetic.value x) }
     requires old { AreNumbers (A.Arithmetic.setting arith.old).meaning A.Arithmetic.value old }
     requires before { AreNumbers (A.Arithmetic.setting arith.old).meaning A.Arithmetic.value before }
     ensures answer { tried (A.Arithmetic.setting arith.old) result ≡ new_cell (A.Arithmetic.setting arith.old).meaning (A.Arithmetic.value x) (values A.Arithmetic.value old) (values A.Arithmetic.value before) }
     ensures plain { WritesPlain (A.Arithmetic.setting arith.old) result }
     ensures same { A.Arithmetic.setting arith.new ≡ A.Arithmetic.setting arith.old }
-    ensures law { A.Arithmetic.lawful arith.new }
 {
     let Some((p, beta)) = arith.split_product(x, before.sum) else {
         return Err(1);
@@ -93,14 +90,12 @@ fn pass<A: Arithmetic>(
     n: usize,
     writing: bool,
 ) -> Result<(), OutOfRange>
-    requires law { A.Arithmetic.lawful arith.old }
     requires number { IsNumber (A.Arithmetic.setting arith.old).meaning (A.Arithmetic.value x) }
     requires within { n ≤ length rest.old }
     requires tried { writing ≡ true → outcome (row_after (A.Arithmetic.setting arith.old).meaning (A.Arithmetic.value x) (readings (A.Arithmetic.setting arith.old) (y ∷ rest.old)) n) ≡ Ok tt }
     ensures answer { result ≡ outcome (row_after (A.Arithmetic.setting arith.old).meaning (A.Arithmetic.value x) (readings (A.Arithmetic.setting arith.old) (y ∷ rest.old)) n) }
     ensures cells { Passed (A.Arithmetic.setting arith.old) (A.Arithmetic.value x) y n writing rest.old rest.new }
     ensures same { A.Arithmetic.setting arith.new ≡ A.Arithmetic.setting arith.old }
-    ensures law { A.Arithmetic.lawful arith.new }
 {
     let mut k = n;
     let first = cell_at(y, rest, k);
@@ -132,12 +127,10 @@ fn add_tried<A: Arithmetic>(
     row: &mut [Cell<A::Plain>],
     n: usize,
 ) -> Result<(), OutOfRange>
-    requires law { A.Arithmetic.lawful arith.old }
     requires number { IsNumber (A.Arithmetic.setting arith.old).meaning (A.Arithmetic.value x) }
     requires within { n < length row.old }
     ensures cells { Added (A.Arithmetic.setting arith.old) (A.Arithmetic.value x) n result row.old row.new }
     ensures same { A.Arithmetic.setting arith.new ≡ A.Arithmetic.setting arith.old }
-    ensures law { A.Arithmetic.lawful arith.new }
 {
     let first = row[0];
     let trial = pass(arith, x, first, &mut row[1..], n, false);
@@ -163,12 +156,10 @@ pub fn add<A: Arithmetic>(
     row: &mut [Cell<A::Plain>],
     number: usize,
 ) -> Result<(), OutOfRange>
-    requires law { A.Arithmetic.lawful arith.old }
     requires number { IsNumber (A.Arithmetic.setting arith.old).meaning (A.Arithmetic.value x) }
     requires some { 0 < length row.old }
     ensures cells { Added (A.Arithmetic.setting arith.old) (A.Arithmetic.value x) (min number (length row.old - 1)) result row.old row.new }
     ensures same { A.Arithmetic.setting arith.new ≡ A.Arithmetic.setting arith.old }
-    ensures law { A.Arithmetic.lawful arith.new }
 {
     let highest = row.len() - 1;
     add_tried(arith, x, row, number.min(highest))
@@ -198,7 +189,6 @@ fn start<A: Arithmetic>(arith: &A, row: &mut [Cell<A::Plain>], one: A::Plain, ze
 
 // Makes a row new, whatever it held.
 pub fn renew<A: Arithmetic>(arith: &A, row: &mut [Cell<A::Plain>])
-    requires law { A.Arithmetic.lawful arith.now }
     requires some { 0 < length row.old }
     ensures { Renewed (A.Arithmetic.setting arith.now) row.old row.new }
 {

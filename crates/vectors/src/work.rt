@@ -9,7 +9,6 @@ use comparison::pattern::Pattern;
 
 // The pattern of a rounded result.
 fn rounded<A: Arithmetic>(arith: &A, res: Option<A::Number>) -> Answer
-    requires law { A.Arithmetic.lawful arith.now }
     requires number { Gives (A.Arithmetic.setting arith.now).meaning A.Arithmetic.value res }
 {
     match res {
@@ -22,7 +21,6 @@ fn rounded<A: Arithmetic>(arith: &A, res: Option<A::Number>) -> Answer
 
 // The patterns of a rounded result and of its error part.
 fn in_parts<A: Arithmetic>(arith: &A, res: Option<(A::Number, A::Number)>) -> Answer
-    requires law { A.Arithmetic.lawful arith.now }
     requires numbers { GivesBoth (A.Arithmetic.setting arith.now).meaning A.Arithmetic.value res }
 {
     match res {
@@ -38,7 +36,6 @@ fn in_parts<A: Arithmetic>(arith: &A, res: Option<(A::Number, A::Number)>) -> An
 
 // The numbers that two patterns are admitted as.
 fn operands<A: Arithmetic>(arith: &A, a: &[u8; 8], b: &[u8; 8]) -> Option<(A::Number, A::Number)>
-    requires law { A.Arithmetic.lawful arith.now }
     ensures numbers { GivesBoth (A.Arithmetic.setting arith.now).meaning A.Arithmetic.value result }
 {
     match arith.admit(a) {
@@ -51,8 +48,6 @@ fn operands<A: Arithmetic>(arith: &A, a: &[u8; 8], b: &[u8; 8]) -> Option<(A::Nu
 }
 
 fn sum<A: Arithmetic>(arith: &mut A, a: &[u8; 8], b: &[u8; 8]) -> Answer
-    requires law { A.Arithmetic.lawful arith.old }
-    ensures law { A.Arithmetic.lawful arith.new }
 {
     match operands(arith, a, b) {
         Some(pair) => {
@@ -65,8 +60,6 @@ fn sum<A: Arithmetic>(arith: &mut A, a: &[u8; 8], b: &[u8; 8]) -> Answer
 }
 
 fn split_sum<A: Arithmetic>(arith: &mut A, a: &[u8; 8], b: &[u8; 8]) -> Answer
-    requires law { A.Arithmetic.lawful arith.old }
-    ensures law { A.Arithmetic.lawful arith.new }
 {
     match operands(arith, a, b) {
         Some(pair) => {
@@ -79,8 +72,6 @@ fn split_sum<A: Arithmetic>(arith: &mut A, a: &[u8; 8], b: &[u8; 8]) -> Answer
 }
 
 fn product<A: Arithmetic>(arith: &mut A, a: &[u8; 8], b: &[u8; 8]) -> Answer
-    requires law { A.Arithmetic.lawful arith.old }
-    ensures law { A.Arithmetic.lawful arith.new }
 {
     match operands(arith, a, b) {
         Some(pair) => {
@@ -93,8 +84,6 @@ fn product<A: Arithmetic>(arith: &mut A, a: &[u8; 8], b: &[u8; 8]) -> Answer
 }
 
 fn split_product<A: Arithmetic>(arith: &mut A, a: &[u8; 8], b: &[u8; 8]) -> Answer
-    requires law { A.Arithmetic.lawful arith.old }
-    ensures law { A.Arithmetic.lawful arith.new }
 {
     match operands(arith, a, b) {
         Some(pair) => {
@@ -108,8 +97,6 @@ fn split_product<A: Arithmetic>(arith: &mut A, a: &[u8; 8], b: &[u8; 8]) -> Answ
 
 // A number lifted by m, where m is one that numbers are lifted by.
 fn lift<A: Arithmetic>(arith: &mut A, a: &[u8; 8], m: u8) -> Answer
-    requires law { A.Arithmetic.lawful arith.old }
-    ensures law { A.Arithmetic.lawful arith.new }
 {
     if m > 192 {
         return Answer::NoOperand;
@@ -124,7 +111,6 @@ fn lift<A: Arithmetic>(arith: &mut A, a: &[u8; 8], m: u8) -> Answer
 }
 
 fn admission<A: Arithmetic>(arith: &A, a: &[u8; 8]) -> Answer
-    requires law { A.Arithmetic.lawful arith.now }
 {
     match arith.admit(a) {
         Ok(x) => Answer::Number(Pattern {
@@ -135,7 +121,6 @@ fn admission<A: Arithmetic>(arith: &A, a: &[u8; 8]) -> Answer
 }
 
 fn at_most<A: Arithmetic>(arith: &A, a: &[u8; 8], b: &[u8; 8]) -> Answer
-    requires law { A.Arithmetic.lawful arith.now }
 {
     match operands(arith, a, b) {
         Some(pair) => {
@@ -155,7 +140,6 @@ pub struct Worked {
 }
 
 pub fn work<A: Arithmetic>(arith: &mut A, vector: Vector) -> Worked
-    requires law { A.Arithmetic.lawful arith.old }
 {
     match vector {
         Vector::Sum(a, b) => Worked {

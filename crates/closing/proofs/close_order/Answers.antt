@@ -6,4 +6,4 @@ use Rattle.closing.proofs.close_order.Goals as goal
 pub returns : goal.returns
 returns g c =
     let e = c.close_numbers.ensures in
-    record { answer = e.answer ∙ close_above _ _ c.args.n c.args.k (omega arith); number = e.number; same = e.same; law = e.law }
+    record { answer = e.answer ∙ close_above _ _ c.args.n c.args.k (omega arith); number = e.number; same = e.same }

@@ -14,7 +14,6 @@ pub pass-requires : goal.pass-requires
 pass-requires g c =
     let e = c.pass-trial.ensures in
     record {
-      law = e.law;
       number = number_by _ _ _ e.same c.requires.number;
       within = again_within (pos 0) _ _ _ c.requires.within (e.cells.left refl);
       tried = λ _. again_tried _ _ _ _ _ _ _ c.requires.within (e.cells.left refl) e.same _ c.if-is_err.ensures.negation e.answer;
@@ -23,10 +22,10 @@ pass-requires g c =
 pub returns-then-is_err : goal.returns-then-is_err
 returns-then-is_err g c =
     let e = c.pass-trial.ensures in
-    record { cells = added_none _ _ _ _ _ _ _ c.requires.within c.index-row-0.is (e.cells.left refl) c.if-is_err.ensures.negation e.answer; same = e.same; law = e.law }
+    record { cells = added_none _ _ _ _ _ _ _ c.requires.within c.index-row-0.is (e.cells.left refl) c.if-is_err.ensures.negation e.answer; same = e.same }
 
 pub returns : goal.returns
 returns g c =
     let e = c.pass-trial.ensures in
     let f = c.pass.ensures in
-    record { cells = added _ _ _ _ _ _ _ _ _ c.requires.within c.index-row-0.is (e.cells.left refl) e.same f.answer f.cells; same = f.same ∙ e.same; law = f.law }
+    record { cells = added _ _ _ _ _ _ _ _ _ c.requires.within c.index-row-0.is (e.cells.left refl) e.same f.answer f.cells; same = f.same ∙ e.same }

@@ -4,7 +4,7 @@ use Rattle.row.proofs.Passes.{numbers_by, starts, writes, tries, refuses, stops,
 use Rattle.row.proofs.pass.Goals as goal
 
 pub loop-k-init : goal.loop-k-init
-loop-k-init g c = (starts _ _ _ _ _ _ c.requires.within _ _ c.read-old.ensures.answer c.cell_at-first.ensures, c.read-old.ensures.number, refl, c.requires.law)
+loop-k-init g c = (starts _ _ _ _ _ _ c.requires.within _ _ c.read-old.ensures.answer c.cell_at-first.ensures, c.read-old.ensures.number, refl)
 
 pub offset_bounds-rest-k : goal.offset_bounds-rest-k
 offset_bounds-rest-k g c = let h : c.loop-k.k - 1 < length c.args.rest.now = omega (arith, c.loop-k.invariant.0.below, c.loop-k.invariant.0.long, c.requires.within) in search rules
@@ -15,7 +15,7 @@ returns-in-Err g c =
     let e = c.in-Err.ensures in
     let at : c.loop-k.k ≡ suc (c.loop-k.k - 1) = omega arith in
     let told = refuses _ _ _ _ _ _ c.requires.within _ _ _ _ _ _ _ at i.2 i.0 c.read-before.ensures.answer c.cell_at-c.ensures _ e.answer in
-    record { answer = told; cells = stops _ _ _ _ _ _ _ _ _ _ i.0 c.requires.tried told; same = e.same ∙ i.2; law = e.law }
+    record { answer = told; cells = stops _ _ _ _ _ _ _ _ _ _ i.0 c.requires.tried told; same = e.same ∙ i.2 }
 
 pub loop-k-preserved-then-writing : goal.loop-k-preserved-then-writing
 loop-k-preserved-then-writing g c =
@@ -25,7 +25,6 @@ loop-k-preserved-then-writing g c =
       writes _ _ _ _ _ _ c.requires.within _ _ _ _ _ _ _ at i.2 i.0 c.read-before.ensures.answer c.cell_at-c.ensures _ c.if-writing.true e.plain e.answer,
       numbers_by _ i.2 c.read-before.ensures.number,
       e.same ∙ i.2,
-      e.law,
     )
 
 pub loop-k-preserved : goal.loop-k-preserved
@@ -36,11 +35,10 @@ loop-k-preserved g c =
       tries _ _ _ _ _ _ c.requires.within _ _ _ _ _ _ _ at i.2 i.0 c.read-before.ensures.answer c.cell_at-c.ensures _ c.if-writing.false e.answer,
       numbers_by _ i.2 c.read-before.ensures.number,
       e.same ∙ i.2,
-      e.law,
     )
 
 pub returns : goal.returns
 returns g c =
     let i = c.loop-k.invariant in
     let z : c.loop-k.k ≡ 0 = omega arith in
-    record { answer = ends_told _ _ _ _ _ _ _ _ _ z i.0; cells = ends _ _ _ _ _ _ _ _ _ z i.0; same = i.2; law = i.3 }
+    record { answer = ends_told _ _ _ _ _ _ _ _ _ z i.0; cells = ends _ _ _ _ _ _ _ _ _ z i.0; same = i.2 }

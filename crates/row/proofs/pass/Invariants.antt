@@ -9,7 +9,6 @@ invariant-loop-k g l =
     Going (g.A.Arithmetic.setting l.initial.arith) (g.A.Arithmetic.value l.x) l.y l.n l.k l.writing l.initial.rest l.rest (values g.A.Arithmetic.value l.old)
     × AreNumbers (g.A.Arithmetic.setting l.initial.arith).meaning g.A.Arithmetic.value l.old
     × (g.A.Arithmetic.setting l.arith ≡ g.A.Arithmetic.setting l.initial.arith)
-    × g.A.Arithmetic.lawful l.arith
 
 abbrev pub decreases-loop-k : goal.decreases-loop-k
 decreases-loop-k g l = l.k

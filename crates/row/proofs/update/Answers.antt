@@ -45,4 +45,4 @@ unfolding new_cell
 returns g c =
     let st = g.A.Arithmetic.setting in
     let same : st c.sum-5.new.self ≡ st c.args.arith.now = search rules in
-    record { answer = search rules; plain = canonical_by (st c.args.arith.now) (st c.sum-5.new.self) _ _ _ _ _ _ c.plain.ensures.answer c.plain.ensures.back c.plain-2.ensures.answer c.plain-2.ensures.back c.plain-3.ensures.answer c.plain-3.ensures.back same; same = same; law = search rules }
+    record { answer = search rules; plain = canonical_by (st c.args.arith.now) (st c.sum-5.new.self) _ _ _ _ _ _ c.plain.ensures.answer c.plain.ensures.back c.plain-2.ensures.answer c.plain-2.ensures.back c.plain-3.ensures.answer c.plain-3.ensures.back same; same = same }

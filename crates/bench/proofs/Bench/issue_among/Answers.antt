@@ -7,10 +7,10 @@ use Rattle.bench.proofs.Bench.issue_among.Goals as goal
 
 pub returns-in_err-check_order : goal.returns-in_err-check_order
 returns-in_err-check_order g c =
-    record { called = called_as _ (told_err told_issued (λ e. refl) _ _ c.from_residual.ensures.1) (issue_refused _ (g.met.A.Arithmetic.rules _ c.requires.law) _ c.args.k _ (checked_among _ _ _ c.args.k c.requires.held c.in_err-check_order.ensures)); cells = refl; keeps = keeps_all _ _ c.requires.standing; lender = refl; question = not_issued _ _ _ c.from_residual.ensures.0; lasting = no_order _ c.from_residual.ensures.0; counts = no_more _ _ c.from_residual.ensures.0 }
+    record { called = called_as _ (told_err told_issued (λ e. refl) _ _ c.from_residual.ensures.1) (issue_refused _ (g.met.A.Arithmetic.rules _) _ c.args.k _ (checked_among _ _ _ c.args.k c.requires.held c.in_err-check_order.ensures)); cells = refl; keeps = keeps_all _ _ c.requires.standing; lender = refl; question = not_issued _ _ _ c.from_residual.ensures.0; lasting = no_order _ c.from_residual.ensures.0; counts = no_more _ _ c.from_residual.ensures.0 }
 
 pub returns-then-self-ge32 : goal.returns-then-self-ge32
-returns-then-self-ge32 g c = record { called = issue_9 _ (g.met.A.Arithmetic.rules _ c.requires.law) _ c.args.k (checked_among _ _ _ c.args.k c.requires.held c.in_ok-check_order.ensures) (omega arith); cells = refl; keeps = keeps_all _ _ c.requires.standing; lender = refl; question = tt; lasting = tt; counts = refl }
+returns-then-self-ge32 g c = record { called = issue_9 _ (g.met.A.Arithmetic.rules _) _ c.args.k (checked_among _ _ _ c.args.k c.requires.held c.in_ok-check_order.ensures) (omega arith); cells = refl; keeps = keeps_all _ _ c.requires.standing; lender = refl; question = tt; lasting = tt; counts = refl }
 
 pub returns : goal.returns
-returns g c = record { called = issue_ok _ (g.met.A.Arithmetic.rules _ c.requires.law) _ c.args.k (checked_among _ _ _ c.args.k c.requires.held c.in_ok-check_order.ensures) (omega arith) _ (omega arith); cells = refl; keeps = keeps_long _ _ _ c.requires.standing refl refl c.requires.standing.few_held (omega arith); lender = refl; question = (refl, refl); lasting = let within = order_in_row _ _ c.args.k c.in_ok-check_order.ensures in omega (arith, c.requires.standing.few_cells); counts = refl }
+returns g c = record { called = issue_ok _ (g.met.A.Arithmetic.rules _) _ c.args.k (checked_among _ _ _ c.args.k c.requires.held c.in_ok-check_order.ensures) (omega arith) _ (omega arith); cells = refl; keeps = keeps_long _ _ _ c.requires.standing refl refl c.requires.standing.few_held (omega arith); lender = refl; question = (refl, refl); lasting = let within = order_in_row _ _ c.args.k c.in_ok-check_order.ensures in omega (arith, c.requires.standing.few_cells); counts = refl }

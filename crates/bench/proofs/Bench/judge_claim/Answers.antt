@@ -7,14 +7,14 @@ use Rattle.bench.proofs.Bench.judge_claim.Goals as goal
 pub returns-in_err-claimed : goal.returns-in_err-claimed
 returns-in_err-claimed g c =
     let j = judged_none _ _ _ c.from_residual.ensures.1 in
-    record { step = j.0 ∙ mark_17 _ (g.met.A.Arithmetic.rules _ c.requires.law) _ _ _ _ _ _ c.in_err-claimed.ensures.answer; out = j.1; same = refl; law = c.requires.law }
+    record { step = j.0 ∙ mark_17 _ (g.met.A.Arithmetic.rules _) _ _ _ _ _ _ c.in_err-claimed.ensures.answer; out = j.1; same = refl }
 
 pub returns-in_err-allowed : goal.returns-in_err-allowed
 returns-in_err-allowed g c =
     let j = judged_none _ _ _ c.from_residual-in_err-allowed.ensures.1 in
-    record { step = j.0 ∙ mark_17_tolerance _ (g.met.A.Arithmetic.rules _ c.requires.law) _ _ _ _ _ _ c.in_ok-claimed.ensures.answer _ c.in_err-allowed.ensures.answer; out = j.1; same = refl; law = c.requires.law }
+    record { step = j.0 ∙ mark_17_tolerance _ (g.met.A.Arithmetic.rules _) _ _ _ _ _ _ c.in_ok-claimed.ensures.answer _ c.in_err-allowed.ensures.answer; out = j.1; same = refl }
 
 pub returns : goal.returns
 returns g c =
     let e = c.judge_numbers.ensures in
-    record { step = mark_by_numbers _ (g.met.A.Arithmetic.rules _ c.requires.law) _ _ _ _ _ _ c.in_ok-claimed.ensures.answer _ c.in_ok-allowed.ensures.answer _ e.step; out = e.out; same = e.same; law = e.law }
+    record { step = mark_by_numbers _ (g.met.A.Arithmetic.rules _) _ _ _ _ _ _ c.in_ok-claimed.ensures.answer _ c.in_ok-allowed.ensures.answer _ e.step; out = e.out; same = e.same }

@@ -8,9 +8,9 @@ pub returns-in-Ok : goal.returns-in-Ok
 returns-in-Ok g c =
     let e = c.in-Ok.ensures in
     let o = e.out in
-    record { called = mark_step _ (g.met.A.Arithmetic.rules _ c.requires.law) _ _ _ _ _ _ e.step; back = tt; cells = refl; keeps = keeps_long _ _ _ c.requires.standing refl refl c.requires.standing.few_held (omega (arith, c.requires.standing.few_out)); lender = refl; counts = omega (arith, o); same = e.same; law = e.law }
+    record { called = mark_step _ (g.met.A.Arithmetic.rules _) _ _ _ _ _ _ e.step; back = tt; cells = refl; keeps = keeps_long _ _ _ c.requires.standing refl refl c.requires.standing.few_held (omega (arith, c.requires.standing.few_out)); lender = refl; counts = omega (arith, o); same = e.same }
 
 pub returns-in-Err : goal.returns-in-Err
 returns-in-Err g c =
     let e = c.in-Err.ensures in
-    record { called = mark_step _ (g.met.A.Arithmetic.rules _ c.requires.law) _ _ _ _ _ _ e.step; back = refl; cells = refl; keeps = keeps_all _ _ c.requires.standing; lender = refl; counts = refl; same = e.same; law = e.law }
+    record { called = mark_step _ (g.met.A.Arithmetic.rules _) _ _ _ _ _ _ e.step; back = refl; cells = refl; keeps = keeps_all _ _ c.requires.standing; lender = refl; counts = refl; same = e.same }
