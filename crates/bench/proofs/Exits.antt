@@ -3,17 +3,17 @@ use Rattle.std.proofs.Common.{◌≡◌, ℕ, suc, ◌-◌, ◌<◌, ◌≤◌, 
 use lib.Signed.{le_z}
 use Rattle.arithmetic.specs.Meaning.{Meaning}
 use Rattle.arithmetic.specs.Setting.{Setting}
-use Rattle.coefficients.specs.Row.{Cell as Values, Trial, new_row}
-use Rattle.coefficients.specs.Closing.{Closed, close, Verdict as Defined, verdict}
+use Rattle.coefficients.specs.Row.{Trial, new_row}
+use Rattle.coefficients.specs.Closing.{Closed, Verdict as Defined, verdict}
 use Rattle.coefficients.specs.Calls.{Making, State, Call, Answer}
 use Rattle.row.specs.declared.cell.Cell.{Cell}
 use Rattle.row.specs.Reading.{plain_cell, Canonical}
 use Rattle.closing.specs.Closings.{GivesNumbers}
 use Rattle.closing.specs.declared.verdict.Verdict.{Verdict}
 use Rattle.bench.specs.Answers.{told_refusal, IssuedFor, OneMore}
-use Rattle.bench.specs.Asking.{order_outcome, question_out, marking_step, JudgedOut}
-use Rattle.bench.specs.Benches.{Standing, Called, Keeps, AdditionLeaves, ClearingLeaves}
-use Rattle.bench.specs.declared.Bench.{Bench}
+use Rattle.bench.specs.Asking.{question_out, marking_step, JudgedOut}
+use Rattle.bench.specs.Benches.{Called, Keeps, AdditionLeaves, ClearingLeaves}
+use Rattle.bench.specs.declared.bench.Bench.{Bench}
 use Rattle.bench.specs.declared.question.Question.{Question}
 use Rattle.bench.specs.declared.refusal.Refusal.{Refusal}
 
@@ -45,24 +45,20 @@ pub judged_none : (s : State) (r : Result Verdict Refusal) (x : Refusal) → IsE
 judged_none s (Ok v) x h = absurd h
 judged_none s (Err e) x h = (ap (λ e. record { answer = told_refusal e; then = s }) h, tt)
 
--- an order that was checked among n zeros, where n are held
-pub checked_among : (K n held k : ℕ) → n ≡ held → {r : Result (Unit {0}) Refusal} → r ≡ order_outcome K n k → r ≡ order_outcome K held k
-checked_among K n held k e f = f ∙ ap (λ n. order_outcome K n k) e
-
 pub called_as : {b : Making} {s s' : State} {call : Call} {answer : Answer} (told : Answer) → told ≡ answer → Called b s s' call answer → Called b s s' call told
 called_as {b} {s} {s'} {call} told e c = subst (Called b s s' call) (sym e) c
 
 -- a call that changes nothing
-pub keeps_all : {A N P : Type 0} (st : Setting P) (b : Bench A N P) → Standing b → Keeps st b b
-keeps_all st b h = record { making = refl; number = refl; long = refl; standing = h }
+pub keeps_all : {A N P : Type 0} {g : _} (st : Setting P) (b : Bench A N P g) → Keeps st b b
+keeps_all st b = record { making = refl; number = refl; long = refl; lender = refl }
 
 -- a call that changes cells and counts
-pub keeps_long : {A N P : Type 0} (st : Setting P) (b b' : Bench A N P) → Standing b → b'.number ≡ b.number → length b'.row.now ≡ length b.row.now → b'.held ≤ 64 → b'.out ≤ 32 → Keeps st b b'
-keeps_long st b b' h n l few out = record {
+pub keeps_long : {A N P : Type 0} {g : _} (st : Setting P) (b b' : Bench A N P g) → b'.number ≡ b.number → length b'.row.now ≡ length b.row.now → b'.row.ghost_name ≡ b.row.ghost_name → Keeps st b b'
+keeps_long st b b' n l lent = record {
   making = ap (λ n. record { meaning = st.meaning; bench_number = n; K = length b'.row.now - 1 }) n ∙ ap (λ l. record { meaning = st.meaning; bench_number = b.number; K = l - 1 }) l;
   number = n;
   long = l;
-  standing = record { some_cells = omega (arith, h.some_cells, l); few_cells = omega (arith, h.few_cells, l); few_held = few; few_out = out };
+  lender = lent;
 }
 
 pub leaves_all : {P : Type 0} (st : Setting P) (n : ℕ) (a : Bool) (old new : List (Cell P)) → a ≡ false → new ≡ old → AdditionLeaves st n a old new
@@ -77,10 +73,6 @@ clearing_refused st old new e = record { refused = λ _. e; renewed = λ z. not_
 
 pub clearing_done : {P : Type 0} (st : Setting P) (old new : List (Cell P)) → new ≡ map (plain_cell st) (new_row st.meaning (length old - 1)) → ClearingLeaves st true old new
 clearing_done st old new e = record { refused = λ z. not_false z; renewed = λ _. e }
-
--- a closing among the zeros held
-pub closed_among : (m : Meaning) (c : Values) (n held k : ℕ) → n ≡ held → {t : Trial Closed} → t ≡ close m c n k → t ≡ close m c held k
-closed_among m c n held k e f = f ∙ ap (λ n. close m c n k) e
 
 -- a question that is out is one of at least one
 pub out_some : (question bench out : ℕ) → question_out question bench out ≡ true → 0 < out
