@@ -43,7 +43,6 @@ impl<'r, A: Arithmetic> Bench<'r, A> {
 
     // Marks a question with a claim and a tolerance, given by their eight bytes. Refusals: 17, 10, 6, 7, 11, 8, 12; each gives the
     // question back.
-    #[tactic(auto, using(crate::proofs::Exits::keeps_all))]
     pub fn mark(
         &mut self,
         arith: &mut A,
