@@ -1,4 +1,5 @@
+pub mod Cells
 pub mod Orders
-pub mod Passes
-pub mod Rows
-pub mod Renewal
+pub mod Trying
+pub mod Writing
+pub mod Additions
