@@ -3,3 +3,4 @@ pub mod Orders
 pub mod Trying
 pub mod Writing
 pub mod Additions
+pub mod Renewal

@@ -8,7 +8,7 @@ use Rattle.row.specs.declared.cell.Operation.{Operation}
 use Rattle.row.specs.declared.cell.OutOfRange.{OutOfRange}
 use Rattle.row.specs.Operations.{operation_number}
 use Rattle.row.specs.Reading.{reading, readings}
-use Rattle.row.specs.Passing.{tried, update, Tells}
+use Rattle.row.specs.Passing.{tried, Tells}
 use Rattle.row.proofs.Orders.{tells_done, tells_stopped}
 
 -- one order, k, whose step answered u, from the cells of the orders k and j = k − 1

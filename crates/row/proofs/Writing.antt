@@ -5,7 +5,7 @@ use native.Mathlib.Decide.{ℕ_discrete}
 use lib.Seq.{map-set, take-set-le}
 use Rattle.std.specs.Result.{IsOk}
 use Rattle.arithmetic.specs.Setting.{Setting}
-use Rattle.coefficients.specs.Row.{Cell as Values, cell, done, refused_at, written, new_cell, row_after}
+use Rattle.coefficients.specs.Row.{Cell as Values, cell, refused_at, written, new_cell, row_after}
 use Rattle.row.specs.declared.cell.Cell.{Cell}
 use Rattle.row.specs.declared.cell.Operation.{Operation}
 use Rattle.row.specs.Operations.{operation_number}

@@ -1,7 +1,7 @@
 // The row of a bench: reading a cell, adding one zero, and making the row new. Generic over the arithmetic.
 #![tactic(auto)]
 
-ghost use Rattle.std.specs.Prelude.{◌≡◌, ◌-◌, ◌<◌, min, length, Ok};
+ghost use Rattle.std.specs.Prelude.{◌≡◌, ◌-◌, ◌<◌, min, length, replicate, Ok};
 ghost use Rattle.arithmetic.specs.Meaning.{Number as IsNumber};
 ghost use Rattle.coefficients.specs.Row.{new_cell, row_after};
 ghost use Rattle.row.specs.Reading.{reading, readings, values, AreNumbers};
@@ -91,12 +91,7 @@ fn try_orders<A: Arithmetic>(
 }
 
 // Writes the orders n down to 1 of an addition that was tried and not refused.
-fn write_orders<A: Arithmetic>(
-    arith: &mut A,
-    x: A::Number,
-    row: &mut [Cell<A::Plain>],
-    n: usize,
-)
+fn write_orders<A: Arithmetic>(arith: &mut A, x: A::Number, row: &mut [Cell<A::Plain>], n: usize)
     requires number { IsNumber (A.setting arith.old).meaning (A.value x) }
     requires within { n < length row.old }
     requires tried { Tells (Ok tt) (row_after (A.setting arith.old).meaning (A.value x) (readings (A.setting arith.old) row.old) n) }
@@ -132,17 +127,26 @@ pub fn add<A: Arithmetic>(
     Ok(())
 }
 
+// Writes one value into every place. The slice's own `fill` asks for a `clone` that cannot fail, which `Copy` does not say.
+fn fill<T: Copy>(row: &mut [T], value: T)
+    ensures { row.new ≡ replicate (length row.old) value }
+{
+    row.fill_with(|| value);
+}
+
 // Makes a row new, whatever it held.
+#[tactic(auto, using(crate::proofs::Renewal::renewed_cells, crate::proofs::Renewal::renewed_reads, crate::proofs::Renewal::first_set_long))]
 pub fn renew<A: Arithmetic>(arith: &A, row: &mut [Cell<A::Plain>])
     requires some { 0 < length row.old }
     ensures { Renewed (A.setting arith.now) row.old row.new }
 {
     let one = arith.plain(arith.one());
     let zero = arith.plain(arith.zero());
-    row.fill_with(|| Cell {
+    let zeros = Cell {
         sum: zero,
         correction: zero,
         errors: zero,
-    });
-    row[0].sum = one;
+    };
+    fill(row, zeros);
+    row[0] = Cell { sum: one, ..zeros };
 }
