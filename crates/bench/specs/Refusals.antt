@@ -1,6 +1,8 @@
 -- Each refusal has its number and its details here, once.
 use Rattle.std.specs.Prelude.{ℕ, List, [], ◌∷◌}
 use Rattle.arithmetic.specs.Causes.{cause_number}
+use Rattle.row.specs.Operations.{operation_number}
+use Rattle.closing.specs.Operations.{closing_number, judging_number}
 use Rattle.bench.specs.declared.refusal.Details.{Details}
 use Rattle.bench.specs.declared.refusal.Details.TheVariants.{Nothing, Operation, OrderAndOperation, CauseNumber}
 use Rattle.bench.specs.declared.refusal.Refusal.{Refusal}
@@ -26,14 +28,14 @@ refusal_details RowLength = []
 refusal_details QuestionOut = []
 refusal_details Full = []
 refusal_details ZeroOutOfLimits = []
-refusal_details (AddingOutOfRange at) = at.order ∷ at.operation ∷ []
+refusal_details (AddingOutOfRange at) = at.order ∷ operation_number at.operation ∷ []
 refusal_details OrderAboveRow = []
 refusal_details OrderAboveZeros = []
-refusal_details (ClosingOutOfRange operation) = operation ∷ []
+refusal_details (ClosingOutOfRange operation) = closing_number operation ∷ []
 refusal_details TooManyOut = []
 refusal_details NotOut = []
 refusal_details ToleranceBelowZero = []
-refusal_details (JudgingOutOfRange operation) = operation ∷ []
+refusal_details (JudgingOutOfRange operation) = judging_number operation ∷ []
 refusal_details (NotAdmitted cause) = cause_number cause ∷ []
 
 abbrev pub told_details : Details → List ℕ
