@@ -71,10 +71,9 @@ impl From<JudgingOperation> for Refusal {
     }
 }
 
-// The details of a refusal, in the order in which they are told.
-#[derive(Clone, Copy)]
+// The details of a refusal that has some: numbers, in the order in which they are told.
+#[derive(Clone, Copy, PartialEq, Eq, Debug)]
 pub enum Details {
-    Nothing,
     Operation(u8),
     OrderAndOperation(usize, u8),
     CauseNumber(u8),
@@ -102,11 +101,11 @@ impl Refusal {
         }
     }
 
-    // Its details.
-    pub fn details(self) -> Details
+    // Its details, if it has any.
+    pub fn details(self) -> Option<Details>
         ensures { told_details result ≡ refusal_details self }
     {
-        match self {
+        let details = match self {
             Refusal::AddingOutOfRange(at) => Details::OrderAndOperation(
                 at.order,
                 at.operation.number(),
@@ -114,8 +113,9 @@ impl Refusal {
             Refusal::ClosingOutOfRange(operation) => Details::Operation(operation.number()),
             Refusal::JudgingOutOfRange(operation) => Details::Operation(operation.number()),
             Refusal::NotAdmitted(cause) => Details::CauseNumber(cause.number()),
-            _ => Details::Nothing,
-        }
+            _ => return None,
+        };
+        Some(details)
     }
 }
 
@@ -125,10 +125,10 @@ impl fmt::Display for Refusal {
         let number = self.number();
         write!(f, "{number}")?;
         match self.details() {
-            Details::Nothing => Ok(()),
-            Details::Operation(operation) => write!(f, " {operation}"),
-            Details::OrderAndOperation(order, operation) => write!(f, " {order} {operation}"),
-            Details::CauseNumber(cause) => write!(f, " {cause}"),
+            None => Ok(()),
+            Some(Details::Operation(operation)) => write!(f, " {operation}"),
+            Some(Details::OrderAndOperation(order, operation)) => write!(f, " {order} {operation}"),
+            Some(Details::CauseNumber(cause)) => write!(f, " {cause}"),
         }
     }
 }
