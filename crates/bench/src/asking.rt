@@ -1,5 +1,6 @@
 // Asking an order.
 ghost use Rattle.std.specs.Prelude.{◌≡◌, ◌-◌, ◌<◌, length, slice_index_or};
+ghost use Rattle.arithmetic.specs.Setting.{Stays};
 ghost use Rattle.coefficients.specs.Row.{cell as cell_of};
 ghost use Rattle.coefficients.specs.Closing.{close as close_of};
 ghost use Rattle.coefficients.specs.Calls.{ask as ask_call};
@@ -45,10 +46,11 @@ impl<'r, A: Arithmetic> Bench<'r, A> {
         arith: &mut A,
         k: u8,
     ) -> Result<Coefficient<A::Number>, ClosingOperation>
-        requires { k < length self.now.row.now }
+        requires law { A.lawful arith.old }
+        requires within { k < length self.now.row.now }
         ensures answer { closing A.value result ≡ close_of (A.setting arith.old).meaning (cell_of (readings (A.setting arith.old) self.now.row.now) k) self.now.held k }
         ensures numbers { GivesNumbers (A.setting arith.old).meaning A.value result }
-        ensures same { A.setting arith.new ≡ A.setting arith.old }
+        ensures arith { Stays A.setting A.lawful arith.old arith.new }
     {
         let cell = cell_at(self.row, k as usize);
         close(arith, cell, self.held, k)
@@ -56,9 +58,10 @@ impl<'r, A: Arithmetic> Bench<'r, A> {
 
     // The value and the error bound of the coefficient of order k. Refusals: 6, 7, 8.
     pub fn ask(&self, arith: &mut A, k: u8) -> Result<Coefficient<A::Number>, Refusal>
+        requires law { A.lawful arith.old }
         ensures called { AnswersCall (A.setting arith.old) self.now self.now (ask_call k) (told_asked A.value result) }
         ensures numbers { GivesNumbers (A.setting arith.old).meaning A.value result }
-        ensures same { A.setting arith.new ≡ A.setting arith.old }
+        ensures arith { Stays A.setting A.lawful arith.old arith.new }
     {
         self.check_order(k)?;
         Ok(self.close_order(arith, k)?)

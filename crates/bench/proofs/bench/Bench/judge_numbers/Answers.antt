@@ -10,16 +10,16 @@ close_order-requires g c = let l = order_in_row _ _ c.args.question.now.order c.
 pub returns-in_err-coefficient-clause-step : goal.returns-in_err-coefficient-clause-step
 returns-in_err-coefficient-clause-step g c =
     let n = natural_by _ _ _ c.zero.ensures.answer c.if-not-natural.ensures in
-    judged_none _ _ _ c.from_residual-in_err-coefficient.ensures.1 ∙ numbers_8 _ (g.met.A.Arithmetic.rules _) _ c.args.question.now.bench c.args.question.now.order (g.A.Arithmetic.value c.args.claim) (g.A.Arithmetic.value c.args.tolerance) (sym c.if-not-is_out.ensures) c.in_ok-check_order.ensures n _ c.in_err-coefficient.ensures.answer
+    judged_none _ _ _ c.from_residual-in_err-coefficient.ensures.1 ∙ numbers_8 _ (g.met.A.Arithmetic.rules _ c.requires.law) _ c.args.question.now.bench c.args.question.now.order (g.A.Arithmetic.value c.args.claim) (g.A.Arithmetic.value c.args.tolerance) (sym c.if-not-is_out.ensures) c.in_ok-check_order.ensures n _ c.in_err-coefficient.ensures.answer
 
 pub returns-in_err-judge-clause-step : goal.returns-in_err-judge-clause-step
 returns-in_err-judge-clause-step g c =
     let e = c.in_ok-coefficient.ensures in
     let n = natural_by _ _ _ c.zero.ensures.answer c.if-not-natural.ensures in
-    judged_none _ _ _ c.from_residual-in_err-judge.ensures.1 ∙ numbers_12 _ (g.met.A.Arithmetic.rules _) _ c.args.question.now.bench c.args.question.now.order (g.A.Arithmetic.value c.args.claim) (g.A.Arithmetic.value c.args.tolerance) (sym c.if-not-is_out.ensures) c.in_ok-check_order.ensures n _ e.answer _ (judged_by _ _ _ _ _ e.same c.in_err-judge.ensures.answer)
+    judged_none _ _ _ c.from_residual-in_err-judge.ensures.1 ∙ numbers_12 _ (g.met.A.Arithmetic.rules _ c.requires.law) _ c.args.question.now.bench c.args.question.now.order (g.A.Arithmetic.value c.args.claim) (g.A.Arithmetic.value c.args.tolerance) (sym c.if-not-is_out.ensures) c.in_ok-check_order.ensures n _ e.answer _ (judged_by _ _ _ _ _ e.arith.same c.in_err-judge.ensures.answer)
 
 pub returns-clause-step : goal.returns-clause-step
 returns-clause-step g c =
     let e = c.in_ok-coefficient.ensures in
     let n = natural_by _ _ _ c.zero.ensures.answer c.if-not-natural.ensures in
-    numbers_ok _ (g.met.A.Arithmetic.rules _) _ c.args.question.now.bench c.args.question.now.order (g.A.Arithmetic.value c.args.claim) (g.A.Arithmetic.value c.args.tolerance) (sym c.if-not-is_out.ensures) c.in_ok-check_order.ensures n _ e.answer _ (judged_by _ _ _ _ _ e.same c.in_ok-judge.ensures.answer)
+    numbers_ok _ (g.met.A.Arithmetic.rules _ c.requires.law) _ c.args.question.now.bench c.args.question.now.order (g.A.Arithmetic.value c.args.claim) (g.A.Arithmetic.value c.args.tolerance) (sym c.if-not-is_out.ensures) c.in_ok-check_order.ensures n _ e.answer _ (judged_by _ _ _ _ _ e.arith.same c.in_ok-judge.ensures.answer)
