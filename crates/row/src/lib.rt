@@ -79,12 +79,9 @@ fn try_orders<A: Arithmetic>(
     ensures same { A.setting arith.new ≡ A.setting arith.old }
 {
     let mut old = read(arith, row[n]);
-    for j in (0..n).rev() {
-        let before = read(arith, row[j]);
-        update(arith, x, old, before).map_err(|operation| OutOfRange {
-            order: j + 1,
-            operation,
-        })?;
+    for order in (1..=n).rev() {
+        let before = read(arith, row[order - 1]);
+        update(arith, x, old, before).map_err(|operation| OutOfRange { order, operation })?;
         old = before;
     }
     Ok(())
@@ -99,9 +96,9 @@ fn write_orders<A: Arithmetic>(arith: &mut A, x: A::Number, row: &mut [Cell<A::P
     ensures same { A.setting arith.new ≡ A.setting arith.old }
 {
     let mut old = read(arith, row[n]);
-    for j in (0..n).rev() {
-        let before = read(arith, row[j]);
-        row[j + 1] = update(arith, x, old, before).unwrap();
+    for order in (1..=n).rev() {
+        let before = read(arith, row[order - 1]);
+        row[order] = update(arith, x, old, before).unwrap();
         old = before;
     }
 }
@@ -120,8 +117,7 @@ pub fn add<A: Arithmetic>(
     ensures cells { Added (A.setting arith.old) (A.value x) (min number (length row.old - 1)) result row.old row.new }
     ensures same { A.setting arith.new ≡ A.setting arith.old }
 {
-    let highest = row.len() - 1;
-    let n = number.min(highest);
+    let n = number.min(row.len() - 1);
     try_orders(arith, x, row, n)?;
     write_orders(arith, x, row, n);
     Ok(())
