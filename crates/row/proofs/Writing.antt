@@ -10,7 +10,7 @@ use Rattle.row.specs.declared.cell.Cell.{Cell}
 use Rattle.row.specs.declared.cell.Operation.{Operation}
 use Rattle.row.specs.Operations.{operation_number}
 use Rattle.row.specs.Reading.{reading, readings, Canonical}
-use Rattle.row.specs.Passing.{tried, Tells, Added}
+use Rattle.row.specs.Answers.{tried, Tells, Added}
 use Rattle.row.proofs.Cells.{reads_at}
 use Rattle.row.proofs.Orders.{onto, row_onto, onto_none, onto_done, onto_stopped}
 

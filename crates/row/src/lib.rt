@@ -5,7 +5,7 @@ ghost use Rattle.std.specs.Prelude.{◌≡◌, ◌-◌, ◌<◌, min, length, re
 ghost use Rattle.arithmetic.specs.Meaning.{Number as IsNumber};
 ghost use Rattle.coefficients.specs.Row.{new_cell, row_after};
 ghost use Rattle.row.specs.Reading.{reading, readings, values, AreNumbers};
-ghost use Rattle.row.specs.Passing.{tried, WritesPlain, Tells, Added, Renewed};
+ghost use Rattle.row.specs.Answers.{tried, WritesPlain, Tells, Added, Renewed};
 
 use arithmetic::Arithmetic;
 use cell::{Cell, Operation, OutOfRange};
@@ -105,7 +105,7 @@ fn write_orders<A: Arithmetic>(arith: &mut A, x: A::Number, row: &mut [Cell<A::P
 
 // Adds the zero x as zero number `number`: to the orders 1 to min(number, K), where the row has K + 1 cells. The row is tried whole
 // before a cell is written.
-#[tactic(auto, using(crate::proofs::Additions::refused))]
+#[tactic(auto, using(crate::proofs::Trying::refused))]
 pub fn add<A: Arithmetic>(
     arith: &mut A,
     x: A::Number,

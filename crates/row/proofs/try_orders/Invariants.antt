@@ -3,7 +3,7 @@ use Rattle.std.proofs.Common.{◌≡◌, Result}
 use Rattle.coefficients.specs.Row.{cell, row_after}
 use Rattle.row.specs.declared.cell.OutOfRange.{OutOfRange}
 use Rattle.row.specs.Reading.{values, readings, AreNumbers}
-use Rattle.row.specs.Passing.{Tells}
+use Rattle.row.specs.Answers.{Tells}
 use Rattle.row.proofs.try_orders.Given as goal
 
 abbrev pub invariant-loop-order : goal.invariant-loop-order
