@@ -15,7 +15,7 @@ use Rattle.row.proofs.Orders.{tells_done, tells_stopped}
 module _ {P : Type 0} (st st' : Setting P) (x : ℤ) (row : List (Cell P)) (k j : ℕ) (old prior : Values) (at : k ≡ suc j) (same : st' ≡ st) (old_is : old ≡ cell (readings st row) k) (prior_is : prior ≡ cell (readings st row) j)
     (u : Result (Cell P) Operation) (step : tried st' u ≡ new_cell st'.meaning x old prior) where
   pub by_row : tried st u ≡ new_cell st.meaning x (cell (readings st row) (suc j)) (cell (readings st row) j)
-  by_row = ap (λ s. tried s u) (sym same) ∙ step ∙ ap (λ s. new_cell s.meaning x old prior) same ∙ cc
+  by_row = cc
 
   pub told_done : (new : Cell P) → u ≡ Ok new → (r : Result (Unit {0}) OutOfRange) → Tells r (row_after st.meaning x (readings st row) j) → Tells r (row_after st.meaning x (readings st row) k)
   told_done new e r t = rw at (tells_done st.meaning x (readings st row) j (reading st new) (ap (tried st) (sym e) ∙ by_row) r t)

@@ -25,7 +25,7 @@ pub fn read<A: Arithmetic>(arith: &A, cell: Cell<A::Plain>) -> Cell<A::Number>
 }
 
 // Cell j after the zero x, from the numbers of the old cells j and j − 1, or the operation that left its range.
-#[tactic(auto, using(crate::proofs::Cells::canonical_by), unfolding(coefficients::specs::Row::new_cell))]
+#[tactic(auto, unfolding(coefficients::specs::Row::new_cell))]
 fn update<A: Arithmetic>(
     arith: &mut A,
     x: A::Number,
