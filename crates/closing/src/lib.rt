@@ -51,9 +51,7 @@ fn close_numbers<A: Arithmetic>(
     let e = arith
         .product(gamma, cell.errors)
         .ok_or(ClosingOperation::GammaProduct)?;
-    let alpha = arith
-        .lift(e, 3 * n)
-        .ok_or(ClosingOperation::LiftedProduct)?;
+    let alpha = arith.lift(e, 3 * n).ok_or(ClosingOperation::LiftedProduct)?;
     let s = arith
         .sum(arith.size(c), alpha)
         .ok_or(ClosingOperation::BoundSum)?;
@@ -64,7 +62,6 @@ fn close_numbers<A: Arithmetic>(
 
 // Closes the order k, whose cell is given, where n zeros are held: the value and the bound, or the operation that left its range.
 // Order 0 is 1 with the bound 0.
-#[tactic(auto, using(crate::proofs::Signs::close_above))]
 pub fn close<A: Arithmetic>(
     arith: &mut A,
     cell: Cell<A::Plain>,
@@ -88,7 +85,7 @@ pub fn close<A: Arithmetic>(
 
 // The verdict on a claim within a tolerance, from a value and its bound; or the operation that left its range. All five operations
 // come before the verdict.
-#[tactic(auto, using(crate::proofs::Signs::below_not), unfolding(coefficients::specs::Closing::verdict))]
+#[tactic(auto, unfolding(coefficients::specs::Closing::verdict))]
 pub fn judge<A: Arithmetic>(
     arith: &mut A,
     coefficient: Coefficient<A::Number>,
@@ -109,9 +106,7 @@ pub fn judge<A: Arithmetic>(
     let d = arith.size(difference);
     let a = arith.sum(d, bound).ok_or(JudgingOperation::NearSum)?;
     let near = arith.lift(a, 3).ok_or(JudgingOperation::Near)?;
-    let b = arith
-        .sum(tolerance, bound)
-        .ok_or(JudgingOperation::FarSum)?;
+    let b = arith.sum(tolerance, bound).ok_or(JudgingOperation::FarSum)?;
     let far = arith.lift(b, 3).ok_or(JudgingOperation::Far)?;
     if arith.at_most(near, tolerance) {
         return Ok(Verdict::Right);

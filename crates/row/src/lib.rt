@@ -5,7 +5,7 @@ ghost use Rattle.std.specs.Prelude.{◌≡◌, ◌-◌, ◌<◌, min, length, re
 ghost use Rattle.arithmetic.specs.Meaning.{Number as IsNumber};
 ghost use Rattle.coefficients.specs.Row.{new_cell, row_after};
 ghost use Rattle.row.specs.Reading.{reading, readings, values, AreNumbers};
-ghost use Rattle.row.specs.Passing.{tried, WritesPlain, Tells, Added, Renewed};
+ghost use Rattle.row.specs.Answers.{tried, WritesPlain, Tells, Added, Renewed};
 
 use arithmetic::Arithmetic;
 use cell::{Cell, Operation, OutOfRange};
@@ -25,7 +25,7 @@ pub fn read<A: Arithmetic>(arith: &A, cell: Cell<A::Plain>) -> Cell<A::Number>
 }
 
 // Cell j after the zero x, from the numbers of the old cells j and j − 1, or the operation that left its range.
-#[tactic(auto, using(crate::proofs::Cells::canonical_by), unfolding(coefficients::specs::Row::new_cell))]
+#[tactic(auto, unfolding(coefficients::specs::Row::new_cell))]
 fn update<A: Arithmetic>(
     arith: &mut A,
     x: A::Number,
@@ -79,12 +79,9 @@ fn try_orders<A: Arithmetic>(
     ensures same { A.setting arith.new ≡ A.setting arith.old }
 {
     let mut old = read(arith, row[n]);
-    for j in (0..n).rev() {
-        let before = read(arith, row[j]);
-        update(arith, x, old, before).map_err(|operation| OutOfRange {
-            order: j + 1,
-            operation,
-        })?;
+    for order in (1..=n).rev() {
+        let before = read(arith, row[order - 1]);
+        update(arith, x, old, before).map_err(|operation| OutOfRange { order, operation })?;
         old = before;
     }
     Ok(())
@@ -99,16 +96,16 @@ fn write_orders<A: Arithmetic>(arith: &mut A, x: A::Number, row: &mut [Cell<A::P
     ensures same { A.setting arith.new ≡ A.setting arith.old }
 {
     let mut old = read(arith, row[n]);
-    for j in (0..n).rev() {
-        let before = read(arith, row[j]);
-        row[j + 1] = update(arith, x, old, before).unwrap();
+    for order in (1..=n).rev() {
+        let before = read(arith, row[order - 1]);
+        row[order] = update(arith, x, old, before).unwrap();
         old = before;
     }
 }
 
 // Adds the zero x as zero number `number`: to the orders 1 to min(number, K), where the row has K + 1 cells. The row is tried whole
 // before a cell is written.
-#[tactic(auto, using(crate::proofs::Additions::refused))]
+#[tactic(auto, using(crate::proofs::Trying::refused))]
 pub fn add<A: Arithmetic>(
     arith: &mut A,
     x: A::Number,
@@ -120,8 +117,7 @@ pub fn add<A: Arithmetic>(
     ensures cells { Added (A.setting arith.old) (A.value x) (min number (length row.old - 1)) result row.old row.new }
     ensures same { A.setting arith.new ≡ A.setting arith.old }
 {
-    let highest = row.len() - 1;
-    let n = number.min(highest);
+    let n = number.min(row.len() - 1);
     try_orders(arith, x, row, n)?;
     write_orders(arith, x, row, n);
     Ok(())
