@@ -3,6 +3,7 @@
 
 ghost use Rattle.std.specs.Prelude.{◌≡◌, ◌≤◌};
 ghost use Rattle.arithmetic.specs.Meaning.{Number as IsNumber};
+ghost use Rattle.arithmetic.specs.Setting.{Stays};
 ghost use Rattle.coefficients.specs.Exact.{signed};
 ghost use Rattle.coefficients.specs.Closing.{closed, close as close_of, verdict as verdict_of};
 ghost use Rattle.row.specs.Reading.{reading, values, AreNumbers};
@@ -20,6 +21,7 @@ pub mod verdict;
 // v for even k, its negative for odd k.
 #[tactic(auto, using(crate::proofs::Signs::signed_even, crate::proofs::Signs::signed_odd))]
 fn with_sign<A: Arithmetic>(arith: &A, v: A::Number, k: u8) -> A::Number
+    requires law { A.lawful arith.now }
     requires number { IsNumber (A.setting arith.now).meaning (A.value v) }
     ensures answer { A.value result ≡ signed k (A.value v) }
     ensures number { IsNumber (A.setting arith.now).meaning (A.value result) }
@@ -35,11 +37,12 @@ fn close_numbers<A: Arithmetic>(
     n: u8,
     k: u8,
 ) -> Result<Coefficient<A::Number>, ClosingOperation>
+    requires law { A.lawful arith.old }
     requires numbers { AreNumbers (A.setting arith.old).meaning A.value cell }
     requires few { n ≤ 64 }
     ensures answer { closing A.value result ≡ closed (A.setting arith.old).meaning (values A.value cell) n k }
     ensures number { GivesNumbers (A.setting arith.old).meaning A.value result }
-    ensures same { A.setting arith.new ≡ A.setting arith.old }
+    ensures arith { Stays A.setting A.lawful arith.old arith.new }
 {
     let (v, c) = arith
         .split_sum(cell.sum, cell.correction)
@@ -68,10 +71,11 @@ pub fn close<A: Arithmetic>(
     n: u8,
     k: u8,
 ) -> Result<Coefficient<A::Number>, ClosingOperation>
+    requires law { A.lawful arith.old }
     requires few { n ≤ 64 }
     ensures answer { closing A.value result ≡ close_of (A.setting arith.old).meaning (reading (A.setting arith.old) cell) n k }
     ensures number { GivesNumbers (A.setting arith.old).meaning A.value result }
-    ensures same { A.setting arith.new ≡ A.setting arith.old }
+    ensures arith { Stays A.setting A.lawful arith.old arith.new }
 {
     if k == 0 {
         return Ok(Coefficient {
@@ -92,12 +96,13 @@ pub fn judge<A: Arithmetic>(
     claim: A::Number,
     tolerance: A::Number,
 ) -> Result<Verdict, JudgingOperation>
+    requires law { A.lawful arith.old }
     requires value { IsNumber (A.setting arith.old).meaning (A.value coefficient.value) }
     requires bound { IsNumber (A.setting arith.old).meaning (A.value coefficient.bound) }
     requires claim { IsNumber (A.setting arith.old).meaning (A.value claim) }
     requires tolerance { IsNumber (A.setting arith.old).meaning (A.value tolerance) }
     ensures answer { judging result ≡ verdict_of (A.setting arith.old).meaning (closed_values A.value coefficient) (A.value claim) (A.value tolerance) }
-    ensures same { A.setting arith.new ≡ A.setting arith.old }
+    ensures arith { Stays A.setting A.lawful arith.old arith.new }
 {
     let Coefficient { value, bound } = coefficient;
     let difference = arith

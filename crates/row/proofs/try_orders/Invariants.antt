@@ -1,5 +1,6 @@
 -- At order k: nothing was refused above it, and the numbers carried over are those of cell k.
 use Rattle.std.proofs.Common.{◌≡◌, Result}
+use Rattle.arithmetic.specs.Setting.{Stays}
 use Rattle.coefficients.specs.Row.{cell, row_after}
 use Rattle.row.specs.declared.cell.OutOfRange.{OutOfRange}
 use Rattle.row.specs.Reading.{values, readings, AreNumbers}
@@ -14,5 +15,5 @@ invariant-loop-order g l =
       told : (r : Result (Unit {0}) OutOfRange) → Tells r (after l.order-counter) → Tells r (after l.n);
       reads : values g.A.Arithmetic.value l.old ≡ cell (readings st l.row) l.order-counter;
       numbers : AreNumbers st.meaning g.A.Arithmetic.value l.old;
-      same : g.A.Arithmetic.setting l.arith ≡ st;
+      arith : Stays g.A.Arithmetic.setting g.A.Arithmetic.lawful l.initial.arith l.arith;
     }

@@ -10,7 +10,7 @@ loop-order-init g c = record {
   row = begins _ _ _ _ _ _ refl refl;
   reads = reads_at (g.A.Arithmetic.setting c.args.arith.now) _ _ c.args.n _ _ c.read-old.ensures.answer refl c.index-row-n.is c.requires.within;
   numbers = c.read-old.ensures.number;
-  same = refl;
+  arith = record { same = refl; law = c.requires.law };
 }
 
 pub offset_bounds-row-order : goal.offset_bounds-row-order
@@ -24,20 +24,20 @@ unwrap-requires g c =
     let i = c.loop-order.invariant in
     let k = c.loop-order.order in
     let at : k ≡ suc (k - 1) = omega arith in
-    let prior = reads_old _ _ _ _ _ _ i.row (k - 1) _ _ _ c.read-before.ensures.answer i.same c.index-row-order.is (omega arith) (omega arith) in
-    not_stopped _ _ _ _ _ _ i.row _ at _ (by_row _ _ _ _ _ _ _ _ at i.same i.reads prior _ c.update.ensures.answer) c.requires.tried
+    let prior = reads_old _ _ _ _ _ _ i.row (k - 1) _ _ _ c.read-before.ensures.answer i.arith.same c.index-row-order.is (omega arith) (omega arith) in
+    not_stopped _ _ _ _ _ _ i.row _ at _ (by_row _ _ _ _ _ _ _ _ at i.arith.same i.reads prior _ c.update.ensures.answer) c.requires.tried
 
 pub loop-order-preserved : goal.loop-order-preserved
 loop-order-preserved g c =
     let i = c.loop-order.invariant in
     let k = c.loop-order.order in
     let at : k ≡ suc (k - 1) = omega arith in
-    let prior = reads_old _ _ _ _ _ _ i.row (k - 1) _ _ _ c.read-before.ensures.answer i.same c.index-row-order.is (omega arith) (omega arith) in
+    let prior = reads_old _ _ _ _ _ _ i.row (k - 1) _ _ _ c.read-before.ensures.answer i.arith.same c.index-row-order.is (omega arith) (omega arith) in
     record {
-      row = next _ _ _ _ _ _ i.row _ at _ (by_row _ _ _ _ _ _ _ _ at i.same i.reads prior _ c.update.ensures.answer) _ c.unwrap.ensures (search rules) c.requires.within (omega arith);
+      row = next _ _ _ _ _ _ i.row _ at _ (by_row _ _ _ _ _ _ _ _ at i.arith.same i.reads prior _ c.update.ensures.answer) _ c.unwrap.ensures (search rules) c.requires.within (omega arith);
       reads = prior;
       numbers = search rules;
-      same = search rules;
+      arith = search rules;
     }
 
 pub returns-clause-cells : goal.returns-clause-cells
