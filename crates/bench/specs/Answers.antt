@@ -3,7 +3,6 @@ use Rattle.std.specs.Prelude.{◌≡◌, ℕ, ◌+◌, Bool, true, false, ℤ, O
 use Rattle.std.proofs.Math.Option.{Option, none, some}
 use Rattle.coefficients.specs.Calls.{Answer, added, cleared, asked, issued, marked, withdrawn, refused}
 use Rattle.closing.specs.Closings.{told_verdict}
-use Rattle.closing.specs.declared.coefficient.Coefficient.{Coefficient}
 use Rattle.closing.specs.declared.verdict.Verdict.{Verdict}
 use Rattle.bench.specs.declared.question.Question.{Question}
 use Rattle.bench.specs.declared.question.GivenBack.{GivenBack}
@@ -26,8 +25,8 @@ abbrev pub told_cleared : Result (Unit {0}) Refusal → Answer
 told_cleared (Ok u) = cleared
 told_cleared (Err r) = told_refusal r
 
-abbrev pub told_asked : {N : Type 0} → (N → ℤ) → Result (Coefficient N) Refusal → Answer
-told_asked value (Ok c) = asked (value c.value) (value c.bound)
+abbrev pub told_asked : {N : Type 0} → (N → ℤ) → Result (N × N) Refusal → Answer
+told_asked value (Ok c) = asked (value c.0) (value c.1)
 told_asked value (Err r) = told_refusal r
 
 abbrev pub told_issued : Result Question Refusal → Answer

@@ -14,7 +14,7 @@ use crate::bench::Bench;
 use crate::refusal::Refusal;
 use arithmetic::Arithmetic;
 use closing::close;
-use closing::coefficient::{ClosingOperation, Coefficient};
+use closing::operations::ClosingOperation;
 use row::cell::Cell;
 
 // The cell of order k.
@@ -45,7 +45,7 @@ impl<'r, A: Arithmetic> Bench<'r, A> {
         &self,
         arith: &mut A,
         k: u8,
-    ) -> Result<Coefficient<A::Number>, ClosingOperation>
+    ) -> Result<(A::Number, A::Number), ClosingOperation>
         requires law { A.lawful arith.old }
         requires within { k < length self.now.row.now }
         ensures answer { closing A.value result ≡ close_of (A.setting arith.old).meaning (cell_of (readings (A.setting arith.old) self.now.row.now) k) self.now.held k }
@@ -57,7 +57,7 @@ impl<'r, A: Arithmetic> Bench<'r, A> {
     }
 
     // The value and the error bound of the coefficient of order k. Refusals: 6, 7, 8.
-    pub fn ask(&self, arith: &mut A, k: u8) -> Result<Coefficient<A::Number>, Refusal>
+    pub fn ask(&self, arith: &mut A, k: u8) -> Result<(A::Number, A::Number), Refusal>
         requires law { A.lawful arith.old }
         ensures called { AnswersCall (A.setting arith.old) self.now self.now (ask_call k) (told_asked A.value result) }
         ensures numbers { GivesNumbers (A.setting arith.old).meaning A.value result }

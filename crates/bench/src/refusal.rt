@@ -4,8 +4,7 @@ ghost use Rattle.bench.specs.Refusals.{refusal_number, refusal_details, told_det
 ghost use Rattle.bench.specs.declared.refusal.Refusal.TheVariants.{AddingOutOfRange, ClosingOutOfRange, JudgingOutOfRange, NotAdmitted};
 
 use arithmetic::cause::Cause;
-use closing::coefficient::ClosingOperation;
-use closing::verdict::JudgingOperation;
+use closing::operations::{ClosingOperation, JudgingOperation};
 use row::cell::OutOfRange;
 use std::fmt;
 

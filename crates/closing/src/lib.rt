@@ -10,12 +10,12 @@ ghost use Rattle.row.specs.Reading.{reading, values, AreNumbers};
 ghost use Rattle.closing.specs.Closings.{closed_values, closing, judging, GivesNumbers};
 
 use arithmetic::Arithmetic;
-use coefficient::{ClosingOperation, Coefficient};
+use operations::{ClosingOperation, JudgingOperation};
 use row::cell::Cell;
 use row::read;
-use verdict::{JudgingOperation, Verdict};
+use verdict::Verdict;
 
-pub mod coefficient;
+pub mod operations;
 pub mod verdict;
 
 // v for even k, its negative for odd k.
@@ -36,7 +36,7 @@ fn close_numbers<A: Arithmetic>(
     cell: Cell<A::Number>,
     n: u8,
     k: u8,
-) -> Result<Coefficient<A::Number>, ClosingOperation>
+) -> Result<(A::Number, A::Number), ClosingOperation>
     requires law { A.lawful arith.old }
     requires numbers { AreNumbers (A.setting arith.old).meaning A.value cell }
     requires few { n ≤ 64 }
@@ -59,8 +59,7 @@ fn close_numbers<A: Arithmetic>(
         .sum(arith.size(c), alpha)
         .ok_or(ClosingOperation::BoundSum)?;
     let bound = arith.lift(s, 2).ok_or(ClosingOperation::Bound)?;
-    let value = with_sign(arith, v, k);
-    Ok(Coefficient { value, bound })
+    Ok((with_sign(arith, v, k), bound))
 }
 
 // Closes the order k, whose cell is given, where n zeros are held: the value and the bound, or the operation that left its range.
@@ -70,7 +69,7 @@ pub fn close<A: Arithmetic>(
     cell: Cell<A::Plain>,
     n: u8,
     k: u8,
-) -> Result<Coefficient<A::Number>, ClosingOperation>
+) -> Result<(A::Number, A::Number), ClosingOperation>
     requires law { A.lawful arith.old }
     requires few { n ≤ 64 }
     ensures answer { closing A.value result ≡ close_of (A.setting arith.old).meaning (reading (A.setting arith.old) cell) n k }
@@ -78,10 +77,7 @@ pub fn close<A: Arithmetic>(
     ensures arith { Stays A.setting A.lawful arith.old arith.new }
 {
     if k == 0 {
-        return Ok(Coefficient {
-            value: arith.one(),
-            bound: arith.zero(),
-        });
+        return Ok((arith.one(), arith.zero()));
     }
     let numbers = read(arith, cell);
     close_numbers(arith, numbers, n, k)
@@ -92,19 +88,19 @@ pub fn close<A: Arithmetic>(
 #[tactic(auto, unfolding(coefficients::specs::Closing::verdict))]
 pub fn judge<A: Arithmetic>(
     arith: &mut A,
-    coefficient: Coefficient<A::Number>,
+    coefficient: (A::Number, A::Number),
     claim: A::Number,
     tolerance: A::Number,
 ) -> Result<Verdict, JudgingOperation>
     requires law { A.lawful arith.old }
-    requires value { IsNumber (A.setting arith.old).meaning (A.value coefficient.value) }
-    requires bound { IsNumber (A.setting arith.old).meaning (A.value coefficient.bound) }
+    requires value { IsNumber (A.setting arith.old).meaning (A.value coefficient.0) }
+    requires bound { IsNumber (A.setting arith.old).meaning (A.value coefficient.1) }
     requires claim { IsNumber (A.setting arith.old).meaning (A.value claim) }
     requires tolerance { IsNumber (A.setting arith.old).meaning (A.value tolerance) }
     ensures answer { judging result ≡ verdict_of (A.setting arith.old).meaning (closed_values A.value coefficient) (A.value claim) (A.value tolerance) }
     ensures arith { Stays A.setting A.lawful arith.old arith.new }
 {
-    let Coefficient { value, bound } = coefficient;
+    let (value, bound) = coefficient;
     let difference = arith
         .sum(claim, arith.negative(value))
         .ok_or(JudgingOperation::Difference)?;

@@ -5,8 +5,8 @@ use Rattle.bench.proofs.Steps.{order_in_row, ask_refused, ask_8, ask_ok}
 use Rattle.bench.proofs.Exits.{passed_up}
 use Rattle.bench.proofs.bench.Bench.ask.Goals as goal
 
-pub close_order-requires : goal.close_order-requires
-close_order-requires g c = let l = order_in_row _ _ c.args.k c.in_ok-check_order.ensures in omega (arith, l, c.args.self.now.some_cells)
+pub close_order-requires-clause-within : goal.close_order-requires-clause-within
+close_order-requires-clause-within g c = let l = order_in_row _ _ c.args.k c.in_ok-check_order.ensures in omega (arith, l, c.args.self.now.some_cells)
 
 pub returns-in_err-check_order-clause-called : goal.returns-in_err-check_order-clause-called
 returns-in_err-check_order-clause-called g c =

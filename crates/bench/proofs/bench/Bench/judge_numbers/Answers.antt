@@ -4,8 +4,8 @@ use Rattle.bench.proofs.Steps.{order_in_row, numbers_8, numbers_12, numbers_ok}
 use Rattle.bench.proofs.Exits.{judged_none, judged_by, natural_by}
 use Rattle.bench.proofs.bench.Bench.judge_numbers.Goals as goal
 
-pub close_order-requires : goal.close_order-requires
-close_order-requires g c = let l = order_in_row _ _ c.args.question.now.order c.in_ok-check_order.ensures in omega (arith, l, c.args.self.now.some_cells)
+pub close_order-requires-clause-within : goal.close_order-requires-clause-within
+close_order-requires-clause-within g c = let l = order_in_row _ _ c.args.question.now.order c.in_ok-check_order.ensures in omega (arith, l, c.args.self.now.some_cells)
 
 pub returns-in_err-coefficient-clause-step : goal.returns-in_err-coefficient-clause-step
 returns-in_err-coefficient-clause-step g c =
