@@ -12,6 +12,7 @@ use Rattle.rounding.specs.Value.{signed}
 use Rattle.arithmetic.specs.Meaning.{Admission, number, not_admitted, Number}
 use Rattle.scientific.specs.Forms.{size_of, is_form, highest}
 use Rattle.scientific.specs.Patterns.{from_to, has_digits, has_fewer, one_form, units_of, admission, reads, meaning}
+use Rattle.scientific.specs.declared.precision.Precision.{Precision}
 use Rattle.scientific.specs.declared.written.Written.{Written}
 use Rattle.scientific.proofs.Limits.{tens}
 use Rattle.scientific.proofs.OneForm.{some_ten}
@@ -127,7 +128,10 @@ pub reads_none : (d : ℕ) (w : Written) (c : ℕ) → not_admitted c ≡ admiss
 reads_none d w c e = reads_by d w (not_admitted c) e
 
 -- ---- with the size s of M and the zeros k apart, as code has them
-module _ (d : ℕ) (M e : ℤ) (s k : ℕ) (h : d ≤ 8) (size : s ≡ nat_abs M) (behind : (e ≡ pos k -ℤ pos 70) × (k ≤ 111 - d)) where
+module _ (p : Precision) (M e : ℤ) (s k : ℕ) (size : s ≡ nat_abs M) (behind : (e ≡ pos k -ℤ pos 70) × (k ≤ 111 - p.digits)) where
+  abbrev d : ℕ
+  d = p.digits
+
   formed_by : (t : Bool) → t ≡ is_form d s k → is_form d (nat_abs M) k ≡ t
   formed_by t f = sym (f ∙ ap (λ (x : ℕ). is_form d x k) size)
 
@@ -135,13 +139,13 @@ module _ (d : ℕ) (M e : ℤ) (s k : ℕ) (h : d ≤ 8) (size : s ≡ nat_abs M
   at_e a q = q ∙ ap (admission d M) (sym behind.0)
 
   pub parts_other : false ≡ is_form d s k → not_admitted 3 ≡ admission d M e
-  parts_other f = at_e (not_admitted 3) (admission_other d M k h behind.1 (formed_by false f))
+  parts_other f = at_e (not_admitted 3) (admission_other d M k p.most behind.1 (formed_by false f))
 
   pub parts_large : (t : Bool) → true ≡ is_form d s k → highest < nat_abs (signed t (size_of s k)) → not_admitted 2 ≡ admission d M e
-  parts_large t f l = at_e (not_admitted 2) (admission_large d M k h behind.1 (formed_by true f) (subst (λ (x : ℕ). highest < x * 10 ^ k) size (subst (λ (x : ℕ). highest < x) (size_signed t (size_of s k)) l)))
+  parts_large t f l = at_e (not_admitted 2) (admission_large d M k p.most behind.1 (formed_by true f) (subst (λ (x : ℕ). highest < x * 10 ^ k) size (subst (λ (x : ℕ). highest < x) (size_signed t (size_of s k)) l)))
 
-  pub parts_number : (z : ℤ) → 1 ≤ d → true ≡ is_form d s k → z ≡ signed (lt_z M (pos 0)) (size_of s k) → nat_abs z ≤ highest → (number z ≡ admission d M e) × Number (meaning d) z
-  parts_number z n f q l = (ap number value ∙ at_e (number (M *ℤ pos (10 ^ k))) (admission_yes d M k h behind.1 (formed_by true f) small), rw value (formed_number d M k n (formed_by true f) small))
+  pub parts_number : (z : ℤ) → true ≡ is_form d s k → z ≡ signed (lt_z M (pos 0)) (size_of s k) → nat_abs z ≤ highest → (number z ≡ admission d M e) × Number (meaning d) z
+  parts_number z f q l = (ap number value ∙ at_e (number (M *ℤ pos (10 ^ k))) (admission_yes d M k p.most behind.1 (formed_by true f) small), rw value (formed_number d M k (omega (arith, p.least)) (formed_by true f) small))
     where
       signs : (M : ℤ) (x : ℕ) → signed (lt_z M (pos 0)) (nat_abs M * x) ≡ M *ℤ pos x
       signs (pos n) x = ap (λ (t : Bool). signed t (n * x)) (leb-suc-zero n)

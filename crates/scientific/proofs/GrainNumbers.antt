@@ -5,6 +5,7 @@ use Rattle.arithmetic.specs.Meaning.{Number}
 use Rattle.arithmetic.specs.Operations.{grain}
 use Rattle.scientific.specs.Forms.{size_of}
 use Rattle.scientific.specs.Patterns.{meaning}
+use Rattle.scientific.specs.declared.precision.Precision.{Precision}
 use Rattle.scientific.proofs.OneForm.{some_ten, moved}
 use Rattle.scientific.proofs.TheRules.{rules}
 
@@ -26,23 +27,24 @@ some_U : (d : ℕ) → 0 < (meaning d).U
 unfolding meaning
 some_U d = mul-pos (lit< tt) (some_ten (d - 1))
 
-grain_is : (d k : ℕ) → 4 ≤ d → d ≤ 8 → k ≤ 192 → pos (k * 5 * 10 ^ (70 - d)) ≡ grain (meaning d) k
-grain_is d k h l f = factor_cancels (pos (k * 5 * 10 ^ (70 - d))) (grain (meaning d) k) (meaning d).U (some_U d) (times_U d k (omega arith) l ∙ sym ((rules d h l).grain_is_exact k f))
-
 -- what a function that answers z ensures
 pub record Grain (d k : ℕ) (z : ℤ) : Type 0 where
   pub answer : z ≡ grain (meaning d) k
   pub number : Number (meaning d) z
 
-grain_as : (d k : ℕ) (z : ℤ) → 4 ≤ d → d ≤ 8 → k ≤ 192 → z ≡ grain (meaning d) k → Grain d k z
-grain_as d k z h l f e = record { answer = e; number = rw e ((rules d h l).grain_is_number k f) }
+module _ (p : Precision) (k : ℕ) (few : k ≤ 192) where
+  abbrev d : ℕ
+  d = p.digits
 
-pub grain_none : (d k : ℕ) (z : ℤ) → 4 ≤ d → d ≤ 8 → k ≤ 192 → k * 5 ≡ 0 → z ≡ pos 0 → Grain d k z
-grain_none d k z h l f e n = grain_as d k z h l f (n ∙ ap pos (sym (ap (λ x. x * 10 ^ (70 - d)) e ∙ zero-mul (10 ^ (70 - d)))) ∙ grain_is d k h l f)
+  grain_is : pos (k * 5 * 10 ^ (70 - d)) ≡ grain (meaning d) k
+  grain_is = factor_cancels (pos (k * 5 * 10 ^ (70 - d))) (grain (meaning d) k) (meaning d).U (some_U d) (times_U d k (omega arith) p.most ∙ sym ((rules p).grain_is_exact k few))
 
--- j zeros moved into the significand
-pub grain_moved : (d k j : ℕ) → 4 ≤ d → d ≤ 8 → k ≤ 192 → j ≤ 60 → Grain d k (pos (size_of (k * 5 * 10 ^ j) (70 - j - d)))
-grain_moved d k j h l f m = grain_as d k (pos (size_of (k * 5 * 10 ^ j) (70 - j - d))) h l f (ap pos (moved (k * 5) j (70 - j - d) (70 - d) (sum d j l m)) ∙ grain_is d k h l f)
-  where
-    sum : (d j : ℕ) → d ≤ 8 → j ≤ 60 → j + (70 - j - d) ≡ 70 - d
-    sum d j l m = omega arith
+  grain_as : (z : ℤ) → z ≡ grain (meaning d) k → Grain d k z
+  grain_as z e = record { answer = e; number = rw e ((rules p).grain_is_number k few) }
+
+  pub grain_none : (z : ℤ) → k * 5 ≡ 0 → z ≡ pos 0 → Grain d k z
+  grain_none z e n = grain_as z (n ∙ ap pos (sym (ap (λ x. x * 10 ^ (70 - d)) e ∙ zero-mul (10 ^ (70 - d)))) ∙ grain_is)
+
+  -- j zeros moved into the significand
+  pub grain_moved : (j : ℕ) → j ≤ 60 → Grain d k (pos (size_of (k * 5 * 10 ^ j) (70 - j - d)))
+  grain_moved j m = grain_as (pos (size_of (k * 5 * 10 ^ j) (70 - j - d))) (ap pos (moved (k * 5) j (70 - j - d) (70 - d) (omega (arith, p.most))) ∙ grain_is)

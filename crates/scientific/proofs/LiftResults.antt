@@ -11,6 +11,7 @@ use Rattle.scientific.specs.declared.number.Scientific.{Scientific}
 use Rattle.scientific.specs.Forms.{size_of, lowest, highest}
 use Rattle.scientific.specs.Numbers.{units}
 use Rattle.scientific.specs.Patterns.{meaning}
+use Rattle.scientific.specs.declared.precision.Precision.{Precision}
 use Rattle.scientific.proofs.OneForm.{some_ten}
 use Rattle.scientific.proofs.Limits.{tens, full_is}
 use Rattle.scientific.proofs.Values.{size_signed}
@@ -18,21 +19,24 @@ use Rattle.scientific.proofs.ErrorPart.{value_with}
 use Rattle.scientific.proofs.ProductResults.{zero_units}
 use Rattle.scientific.proofs.Meanings.{lift_rounding, lift_yes, lift_number, lift_no, lift_nil}
 
-module _ (d : ℕ) (P : 4 ≤ d) (few : d ≤ 8) (a : Scientific) (g : ℕ) (l : g ≤ 192) where
+module _ (p : Precision) (a : Scientific) (g : ℕ) (l : g ≤ 192) where
+  abbrev d : ℕ
+  d = p.digits
+
   one : 1 ≤ d
-  one = omega arith
+  one = omega (arith, p.least)
 
   abbrev u : ℕ
   u = 2 * 10 ^ (d - 1)
 
   left : 0 < u - g
-  left = plain (10 ^ (d - 1)) (tens 3 (d - 1) (omega arith))
+  left = plain (10 ^ (d - 1)) (tens 3 (d - 1) (omega (arith, p.least)))
     where
       plain : (x : ℕ) → 10 ^ 3 ≤ x → 0 < 2 * x - g
       plain x h = omega arith
 
   full : (a.zeros ≡ 0) ⊎ ((u - g) * 10 ^ (d - 1) ≤ a.significand * u)
-  full = ⊎_elim inl (λ h. inr (wide a.significand u (10 ^ (d - 1)) h (tens (d - 1) 7 (omega arith)))) (full_is a.significand a.zeros a.full).1
+  full = ⊎_elim inl (λ h. inr (wide a.significand u (10 ^ (d - 1)) h (tens (d - 1) 7 (omega (arith, p.most))))) (full_is a.significand a.zeros a.full).1
     where
       wide : (s v x : ℕ) → 10 ^ 7 ≤ s → x ≤ 10 ^ 7 → (v - g) * x ≤ s * v
       wide s v x h k = let less : v - g ≤ v = omega arith in rw (mul_comm s v) (mul-le-mul less (le_trans k h))

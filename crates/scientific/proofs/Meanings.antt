@@ -15,7 +15,7 @@ use Rattle.rounding.proofs.Rounded.{rounds, rounds_mono, stays}
 use Rattle.rounding.proofs.Signs.{abs_rounding}
 use Rattle.arithmetic.specs.Meaning.{Meaning, Number}
 use Rattle.arithmetic.specs.Operations.{sum, sum_split, product, product_split, product_error, lift, not_above, with_error, sum_error}
-use Rattle.arithmetic.specs.Setting.{valued, split_valued, Gives, GivesBoth}
+use Rattle.arithmetic.specs.Setting.{valued, split_valued, GivesBoth}
 use Rattle.arithmetic.proofs.Answers.{sum_is, sum_not, sum_split_is, sum_split_not, product_is, product_not, product_zero, lift_is, lift_not, lift_zero}
 use Rattle.scientific.specs.declared.number.Scientific.{Scientific}
 use Rattle.scientific.specs.Forms.{size_of, lowest, highest}
@@ -29,7 +29,7 @@ use Rattle.scientific.proofs.Values.{size_signed, signed_times}
 use Rattle.scientific.proofs.Shifted.{whole_with, fraction_with, signed_rounding}
 
 -- ---- sums the other way round
-pub sum_turned : (m : Meaning) (a b : ℤ) → sum m a b ≡ sum m b a
+sum_turned : (m : Meaning) (a b : ℤ) → sum m a b ≡ sum m b a
 unfolding sum
 sum_turned m a b = ap (λ (z : ℤ). not_above m (m.rounding z m.Q)) (+ℤ_comm a b)
 
@@ -96,36 +96,11 @@ module _ (d : ℕ) (P : 1 ≤ d) where
   unfolding meaning
   number_of x h = record { unchanged = law.number_stays (units x) h; bounded = bounded_units x }
 
-  -- ---- sums
-  pub sum_rounding : (z : ℤ) (t : Bool) (n k : ℕ) → z ≡ signed t (size_of n k) → (meaning d).rounding z (meaning d).Q ≡ signed t (size_of (rounded 10 d n 1) k)
-  unfolding meaning
-  sum_rounding z t n k e = ap (λ (y : ℤ). rounding 10 d (10 ^ 70) y (10 ^ 70)) e ∙ whole_is d 70 P (lit≤ tt) t n k
-
-  rounding_digits : (z : ℤ) → Digits 10 d (nat_abs ((meaning d).rounding z (meaning d).Q))
-  unfolding meaning
-  rounding_digits z = law.what_stays _ (law.twice z (10 ^ 70) (lit≤ tt))
-
-  pub sum_answer : (a b : ℤ) (r : Option Scientific) → Formed ((meaning d).rounding (a +ℤ b) (meaning d).Q) r → valued units r ≡ sum (meaning d) a b
-  sum_answer a b (Some x) f = sum_is (meaning d) a b (units x) (sym f) (bounded_units x)
-  sum_answer a b None f = sum_not (meaning d) a b _ refl (λ l. lt_irrefl highest (lt_of_lt_of_le f (rw high_is at l)))
-
-  pub sum_number : (a b : ℤ) (r : Option Scientific) → Formed ((meaning d).rounding (a +ℤ b) (meaning d).Q) r → Gives (meaning d) units r
-  sum_number a b (Some x) f = number_of x (subst (λ (y : ℤ). Digits 10 d (nat_abs y)) (sym f) (rounding_digits (a +ℤ b)))
-  sum_number a b None f = tt
-
-  pub sum_split_answer : (a b : ℤ) (r : Option (Scientific × Scientific)) → SplitFormed d ((meaning d).rounding (a +ℤ b) (meaning d).Q) (a +ℤ b) r → split_valued units r ≡ sum_split (meaning d) a b
-  sum_split_answer a b (Some p) f = sum_split_is (meaning d) a b (units p.0) (units p.1) (sum_answer a b (Some p.0) f.0) f.1
-  sum_split_answer a b None f = sum_split_not (meaning d) a b (sum_answer a b None f)
-
-  pub sum_split_numbers : (a b : ℤ) (r : Option (Scientific × Scientific)) → SplitFormed d ((meaning d).rounding (a +ℤ b) (meaning d).Q) (a +ℤ b) r → GivesBoth (meaning d) units r
-  sum_split_numbers a b (Some p) f = (sum_number a b (Some p.0) f.0, number_of p.1 f.2)
-  sum_split_numbers a b None f = tt
-
-  -- ---- products and lifts: accepted from the lower limit on, refused below it and above the upper one
   gives_digits : (z : ℤ) (D : ℕ) → 0 < D → Digits 10 d (nat_abs ((meaning d).rounding z D))
   unfolding meaning
   gives_digits z D h = law.what_stays _ (law.twice z D h)
 
+  -- what is rounded is a number
   number_from : (x : Scientific) (z : ℤ) (D : ℕ) → 0 < D → units x ≡ (meaning d).rounding z D → Number (meaning d) (units x)
   number_from x z D h f = number_of x (subst (λ (y : ℤ). Digits 10 d (nat_abs y)) (sym f) (gives_digits z D h))
 
@@ -133,6 +108,24 @@ module _ (d : ℕ) (P : 1 ≤ d) where
   unfolding meaning
   scale = lit≤ tt
 
+  -- ---- sums
+  pub sum_rounding : (z : ℤ) (t : Bool) (n k : ℕ) → z ≡ signed t (size_of n k) → (meaning d).rounding z (meaning d).Q ≡ signed t (size_of (rounded 10 d n 1) k)
+  unfolding meaning
+  sum_rounding z t n k e = ap (λ (y : ℤ). rounding 10 d (10 ^ 70) y (10 ^ 70)) e ∙ whole_is d 70 P (lit≤ tt) t n k
+
+  sum_answer : (a b : ℤ) (r : Option Scientific) → Formed ((meaning d).rounding (a +ℤ b) (meaning d).Q) r → valued units r ≡ sum (meaning d) a b
+  sum_answer a b (Some x) f = sum_is (meaning d) a b (units x) (sym f) (bounded_units x)
+  sum_answer a b None f = sum_not (meaning d) a b _ refl (λ l. lt_irrefl highest (lt_of_lt_of_le f (rw high_is at l)))
+
+  pub sum_split_answer : (a b : ℤ) (r : Option (Scientific × Scientific)) → SplitFormed d ((meaning d).rounding (a +ℤ b) (meaning d).Q) (a +ℤ b) r → split_valued units r ≡ sum_split (meaning d) a b
+  sum_split_answer a b (Some p) f = sum_split_is (meaning d) a b (units p.0) (units p.1) (sum_answer a b (Some p.0) f.0) f.1
+  sum_split_answer a b None f = sum_split_not (meaning d) a b (sum_answer a b None f)
+
+  pub sum_split_numbers : (a b : ℤ) (r : Option (Scientific × Scientific)) → SplitFormed d ((meaning d).rounding (a +ℤ b) (meaning d).Q) (a +ℤ b) r → GivesBoth (meaning d) units r
+  sum_split_numbers a b (Some p) f = (number_from p.0 (a +ℤ b) (meaning d).Q scale f.0, number_of p.1 f.2)
+  sum_split_numbers a b None f = tt
+
+  -- ---- products and lifts: accepted from the lower limit on, refused below it and above the upper one
   out : (z : ℤ) → (nat_abs z < lowest) ⊎ (highest < nat_abs z) → (meaning d).low ≤ nat_abs z → nat_abs z ≤ (meaning d).high → ⊥
   out z (inl h) l u = lt_irrefl (nat_abs z) (lt_of_lt_of_le h (rw low_is at l))
   out z (inr h) l u = lt_irrefl highest (lt_of_lt_of_le h (rw high_is at u))

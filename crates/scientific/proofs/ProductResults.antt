@@ -18,6 +18,7 @@ use Rattle.scientific.specs.declared.number.Scientific.{Scientific}
 use Rattle.scientific.specs.Forms.{size_of, lowest, highest}
 use Rattle.scientific.specs.Numbers.{units}
 use Rattle.scientific.specs.Patterns.{meaning}
+use Rattle.scientific.specs.declared.precision.Precision.{Precision}
 use Rattle.scientific.proofs.OneForm.{some_ten, joined}
 use Rattle.scientific.proofs.Limits.{full_is}
 use Rattle.scientific.proofs.Counted.{ten}
@@ -61,9 +62,12 @@ not_zero a b h k e = clash (mul-pos (some_size a.significand a.zeros h) (some_si
     clash : {x : ℕ} → 0 < x → x ≡ 0 → ⊥
     clash h e = omega arith
 
-module _ (d : ℕ) (P : 4 ≤ d) (a b : Scientific) where
+module _ (p : Precision) (a b : Scientific) where
+  abbrev d : ℕ
+  d = p.digits
+
   one : 1 ≤ d
-  one = omega arith
+  one = omega (arith, p.least)
 
   pub nil_a : a.significand ≡ 0 → some (units a) ≡ product (meaning d) (units a) (units b)
   nil_a e = product_nil d one (units a) (units b) (units a) (nil_left (units a) (units b) (zero_units a e)) (zero_units a e)
@@ -122,19 +126,19 @@ module _ (d : ℕ) (P : 4 ≤ d) (a b : Scientific) where
               wide : (x z q : ℕ) → x * 10 ^ z * 10 ^ q ≡ x * 10 ^ (z + q)
               wide x z q = mul_assoc x (10 ^ z) (10 ^ q) ∙ ap (λ (y : ℕ). x * y) (joined z q (z + q) refl)
 
--- ---- the error part is a number
-pub part : (d : ℕ) → 4 ≤ d → (a b : Scientific) → Number (meaning d) (units a) → Number (meaning d) (units b) → (x : ℕ) → x ≡ a.significand * b.significand → Digits 10 d (dist x (rounded 10 d x 1))
-part d P a b na nb x e = product_part 10 d ten (one d P a b) x (rounded 10 d x 1) (ha.m * hb.m) (ha.e + hb.e) (rounds 10 d ten (one d P a b) x 1 (lit≤ tt))
-    (e ∙ ap (λ (s : ℕ). s * b.significand) ha.is ∙ ap (λ (t : ℕ). ha.m * 10 ^ ha.e * t) hb.is ∙ apart ha.m hb.m ha.e hb.e) (less ha.m hb.m (10 ^ d) ha.few hb.few)
-  where
-    own : (c : Scientific) → Number (meaning d) (units c) → Digits 10 d c.significand
-    own c nc = digits_off d c.significand c.zeros (subst (Digits 10 d) (size_signed c.negative (size_of c.significand c.zeros)) (digits_of d (one d P a b) (units c) nc))
+  -- ---- the error part is a number
+  pub part : Number (meaning d) (units a) → Number (meaning d) (units b) → (x : ℕ) → x ≡ a.significand * b.significand → Digits 10 d (dist x (rounded 10 d x 1))
+  part na nb x e = product_part 10 d ten one x (rounded 10 d x 1) (ha.m * hb.m) (ha.e + hb.e) (rounds 10 d ten one x 1 (lit≤ tt))
+      (e ∙ ap (λ (s : ℕ). s * b.significand) ha.is ∙ ap (λ (t : ℕ). ha.m * 10 ^ ha.e * t) hb.is ∙ apart ha.m hb.m ha.e hb.e) (less ha.m hb.m (10 ^ d) ha.few hb.few)
+    where
+      own : (c : Scientific) → Number (meaning d) (units c) → Digits 10 d c.significand
+      own c nc = digits_off d c.significand c.zeros (subst (Digits 10 d) (size_signed c.negative (size_of c.significand c.zeros)) (digits_of d one (units c) nc))
 
-    ha : Digits 10 d a.significand
-    ha = own a na
+      ha : Digits 10 d a.significand
+      ha = own a na
 
-    hb : Digits 10 d b.significand
-    hb = own b nb
+      hb : Digits 10 d b.significand
+      hb = own b nb
 
-    less : (m n x : ℕ) → m < x → n < x → m * n < x * x
-    less m n x h k = omega (arith, mul-le-mul_right n h, mul-le-mul_left x k)
+      less : (m n x : ℕ) → m < x → n < x → m * n < x * x
+      less m n x h k = omega (arith, mul-le-mul_right n h, mul-le-mul_left x k)

@@ -14,6 +14,7 @@ use Rattle.scientific.specs.declared.number.Scientific.{Scientific}
 use Rattle.scientific.specs.Forms.{size_of}
 use Rattle.scientific.specs.Numbers.{units}
 use Rattle.scientific.specs.Patterns.{meaning}
+use Rattle.scientific.specs.declared.precision.Precision.{Precision}
 use Rattle.scientific.proofs.OneForm.{moved}
 use Rattle.scientific.proofs.Limits.{full_is}
 use Rattle.scientific.proofs.Counted.{ten}
@@ -22,9 +23,12 @@ use Rattle.scientific.proofs.ErrorPart.{digits_off}
 use Rattle.scientific.proofs.Absorbed.{absorbs_more, absorbs_less, no_more}
 use Rattle.scientific.proofs.Meanings.{digits_of, sum_rounding}
 
-module _ (d : ℕ) (P : 4 ≤ d) (few : d ≤ 8) (a b : Scientific) (na : Number (meaning d) (units a)) (nb : Number (meaning d) (units b)) where
+module _ (p : Precision) (a b : Scientific) (na : Number (meaning p.digits) (units a)) (nb : Number (meaning p.digits) (units b)) where
+  abbrev d : ℕ
+  d = p.digits
+
   some : 1 ≤ d
-  some = omega arith
+  some = omega (arith, p.least)
 
   abbrev S : ℕ
   S = size_of a.significand a.zeros
@@ -71,7 +75,7 @@ module _ (d : ℕ) (P : 4 ≤ d) (few : d ≤ 8) (a b : Scientific) (na : Number
     far_sum = sym (go (beq a.negative b.negative) refl)
       where
         go : (t : Bool) → beq a.negative b.negative ≡ t → (meaning d).rounding (units a +ℤ units b) (meaning d).Q ≡ signed a.negative S
-        go true e = plain (units a +ℤ units b) a.negative (S + L) (sym (same_sign a.negative b.negative S L e)) (absorbs_more d a.significand a.zeros b.significand b.zeros some few digits_a long short apart)
+        go true e = plain (units a +ℤ units b) a.negative (S + L) (sym (same_sign a.negative b.negative S L e)) (absorbs_more d a.significand a.zeros b.significand b.zeros some p.most digits_a long short apart)
         go false e = plain (units a +ℤ units b) a.negative (S - L)
-            (sym (no_larger a.negative b.negative S L e (no_more d a.significand a.zeros b.significand b.zeros some few digits_a long short apart)))
-            (absorbs_less d a.significand a.zeros b.significand b.zeros some few digits_a long short apart)
+            (sym (no_larger a.negative b.negative S L e (no_more d a.significand a.zeros b.significand b.zeros some p.most digits_a long short apart)))
+            (absorbs_less d a.significand a.zeros b.significand b.zeros some p.most digits_a long short apart)

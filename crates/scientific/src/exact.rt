@@ -4,13 +4,15 @@ ghost use Rattle.rounding.specs.Value.{signed};
 ghost use Rattle.arithmetic.specs.Meaning.{Number};
 ghost use Rattle.arithmetic.specs.Operations.{in_limits, grain as grain_of, size as size_of};
 ghost use Rattle.scientific.specs.Patterns.{meaning};
+ghost use Rattle.scientific.specs.declared.precision.Precision.{Precision};
 ghost use Rattle.scientific.specs.Numbers.{units};
 
 use crate::number::Scientific;
+use crate::precision::Precision;
 
 pub fn zero() -> Scientific
     ensures answer { units result ≡ pos 0 }
-    ensures number { (d : ℕ) → 4 ≤ d → d ≤ 8 → Number (meaning d) (units result) }
+    ensures number { (p : Precision) → Number (meaning p.digits) (units result) }
 {
     Scientific {
         negative: false,
@@ -21,7 +23,7 @@ pub fn zero() -> Scientific
 
 pub fn one() -> Scientific
     ensures answer { (d : ℕ) → units result ≡ pos (meaning d).Q }
-    ensures number { (d : ℕ) → 4 ≤ d → d ≤ 8 → Number (meaning d) (units result) }
+    ensures number { (p : Precision) → Number (meaning p.digits) (units result) }
 {
     Scientific {
         negative: false,
@@ -33,7 +35,7 @@ pub fn one() -> Scientific
 // The absolute value.
 pub fn size(a: Scientific) -> Scientific
     ensures answer { units result ≡ size_of (units a) }
-    ensures number { (d : ℕ) → 4 ≤ d → d ≤ 8 → Number (meaning d) (units a) → Number (meaning d) (units result) }
+    ensures number { (p : Precision) → Number (meaning p.digits) (units a) → Number (meaning p.digits) (units result) }
 {
     Scientific {
         negative: false,
@@ -44,7 +46,7 @@ pub fn size(a: Scientific) -> Scientific
 
 pub fn negative(a: Scientific) -> Scientific
     ensures answer { units result ≡ neg_ℤ (units a) }
-    ensures number { (d : ℕ) → 4 ≤ d → d ≤ 8 → Number (meaning d) (units a) → Number (meaning d) (units result) }
+    ensures number { (p : Precision) → Number (meaning p.digits) (units a) → Number (meaning p.digits) (units result) }
 {
     Scientific {
         negative: !a.negative,
@@ -75,14 +77,12 @@ pub fn is_in_limits(a: Scientific) -> bool
     a.significand == 0 || a.zeros >= 23
 }
 
-// The grain k u, which is exact: 5 k × 10^-d, so 5 k with 70 - d zeros behind it. Zeros are moved into the significand until it has eight
+// The grain k u, which is exact: with d digits 5 k × 10^-d, so 5 k with 70 - d zeros behind it. Zeros are moved into the significand until it has eight
 // digits.
-pub fn grain(k: u8, d: u8) -> Scientific
-    requires least { 4 ≤ d }
-    requires most { d ≤ 8 }
-    requires few { k ≤ 192 }
-    ensures answer { units result ≡ grain_of (meaning d) k }
-    ensures number { Number (meaning d) (units result) }
+pub fn grain(k: u8, p: Precision) -> Scientific
+    requires { k ≤ 192 }
+    ensures answer { units result ≡ grain_of (meaning p.digits) k }
+    ensures number { Number (meaning p.digits) (units result) }
 {
     let n = k as u32 * 5;
     if n == 0 {
@@ -92,19 +92,19 @@ pub fn grain(k: u8, d: u8) -> Scientific
         return Scientific {
             negative: false,
             significand: n * 10_000_000,
-            zeros: 63 - d,
+            zeros: 63 - p.digits,
         };
     }
     if n < 100 {
         return Scientific {
             negative: false,
             significand: n * 1_000_000,
-            zeros: 64 - d,
+            zeros: 64 - p.digits,
         };
     }
     Scientific {
         negative: false,
         significand: n * 100_000,
-        zeros: 65 - d,
+        zeros: 65 - p.digits,
     }
 }

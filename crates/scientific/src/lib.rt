@@ -10,6 +10,7 @@ mod forms;
 pub mod lifting;
 mod nearest;
 pub mod number;
+pub mod precision;
 pub mod products;
 mod rounded;
 pub mod sums;

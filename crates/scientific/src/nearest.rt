@@ -1,53 +1,52 @@
-// Rounding to d digits: to nearest, ties to the even significand.
+// Rounding to so many digits: to nearest, ties to the even significand.
 ghost use Rattle.std.specs.Prelude.{◌≡◌, ◌*◌, ◌^◌, ◌<◌, ◌≤◌};
 ghost use Rattle.rounding.specs.Radix.{nearest as nearest_whole, rounded};
 
+use crate::precision::Precision;
 use crate::tables::{digits, power};
 
-// What was rounded: a significand with zeros behind it. Rounding up may give the significand 10^d.
+// What was rounded to d digits: a significand with zeros behind it. Rounding up may give the significand 10^d.
 #[derive(Clone, Copy)]
 pub(crate) struct Rounded {
     pub(crate) significand: u64,
     pub(crate) zeros: u32,
 }
 
-// n rounded to d digits.
-pub fn round(n: u64, d: u8) -> Rounded
-    requires { 1 ≤ d }
-    ensures value { result.significand * 10 ^ result.zeros ≡ rounded 10 d n 1 }
-    ensures short { result.significand ≤ 10 ^ d }
+// n rounded to as many digits as p has.
+pub fn round(n: u64, p: Precision) -> Rounded
+    ensures value { result.significand * 10 ^ result.zeros ≡ rounded 10 p.digits n 1 }
+    ensures short { result.significand ≤ 10 ^ p.digits }
     ensures few { result.zeros ≤ 19 }
 {
     let count = digits(n);
-    if count <= d as u32 {
+    if count <= p.digits as u32 {
         return Rounded {
             significand: n,
             zeros: 0,
         };
     }
-    let zeros = count - d as u32;
+    let zeros = count - p.digits as u32;
     Rounded {
         significand: nearest(n, power(zeros)),
         zeros,
     }
 }
 
-// n / divisor rounded to d digits.
-pub fn round_fraction(n: u64, divisor: u64, d: u8) -> Rounded
-    requires some { 1 ≤ d }
-    requires divides { 0 < divisor }
-    ensures value { result.significand * 10 ^ result.zeros ≡ rounded 10 d n divisor }
-    ensures short { result.significand ≤ 10 ^ d }
+// n / divisor rounded to as many digits as p has.
+pub fn round_fraction(n: u64, divisor: u64, p: Precision) -> Rounded
+    requires { 0 < divisor }
+    ensures value { result.significand * 10 ^ result.zeros ≡ rounded 10 p.digits n divisor }
+    ensures short { result.significand ≤ 10 ^ p.digits }
     ensures few { result.zeros ≤ 19 }
 {
     let count = digits(n / divisor);
-    if count <= d as u32 {
+    if count <= p.digits as u32 {
         return Rounded {
             significand: nearest(n, divisor),
             zeros: 0,
         };
     }
-    let zeros = count - d as u32;
+    let zeros = count - p.digits as u32;
     Rounded {
         significand: nearest(n, divisor * power(zeros)),
         zeros,

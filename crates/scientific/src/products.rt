@@ -2,51 +2,27 @@
 ghost use Rattle.std.specs.Prelude.{◌≡◌, ◌+◌, ◌*◌, ◌<◌, ◌≤◌, ◌*ℤ◌};
 ghost use Rattle.rounding.specs.Value.{signed};
 ghost use Rattle.arithmetic.specs.Meaning.{Number};
-ghost use Rattle.arithmetic.specs.Operations.{product as rounded_product, product_split};
-ghost use Rattle.arithmetic.specs.Setting.{valued, split_valued, Gives, GivesBoth};
+ghost use Rattle.arithmetic.specs.Operations.{product_split};
+ghost use Rattle.arithmetic.specs.Setting.{split_valued, GivesBoth};
 ghost use Rattle.scientific.specs.Forms.{size_of};
 ghost use Rattle.scientific.specs.Patterns.{meaning};
 ghost use Rattle.scientific.specs.Numbers.{units};
 
 use crate::forms::not_below;
 use crate::number::Scientific;
-use crate::rounded::{rounded_form, split_form};
+use crate::precision::Precision;
+use crate::rounded::split_form;
 use crate::whole::Whole;
 
 // The zeros of 1: a product has those of both factors, less these.
 const ZEROS_OF_ONE: u32 = 70;
 
-// The rounded product. A product of so few zeros that it is no whole number of units is below the lower limit.
-pub fn product(a: Scientific, b: Scientific, d: u8) -> Option<Scientific>
-    requires least { 4 ≤ d }
-    requires most { d ≤ 8 }
-    requires left { Number (meaning d) (units a) }
-    requires right { Number (meaning d) (units b) }
-    ensures answer { valued units result ≡ rounded_product (meaning d) (units a) (units b) }
-    ensures number { Gives (meaning d) units result }
-{
-    if a.significand == 0 {
-        return Some(a);
-    }
-    if b.significand == 0 {
-        return Some(b);
-    }
-    let zeros = a.zeros as u32 + b.zeros as u32;
-    if zeros < ZEROS_OF_ONE {
-        return None;
-    }
-    let x = rounded_form(significands(a, b), zeros - ZEROS_OF_ONE, d)?;
-    if not_below(x) { Some(x) } else { None }
-}
-
-// The rounded product and its error part.
-pub fn split_product(a: Scientific, b: Scientific, d: u8) -> Option<(Scientific, Scientific)>
-    requires least { 4 ≤ d }
-    requires most { d ≤ 8 }
-    requires left { Number (meaning d) (units a) }
-    requires right { Number (meaning d) (units b) }
-    ensures answer { split_valued units result ≡ product_split (meaning d) (units a) (units b) }
-    ensures number { GivesBoth (meaning d) units result }
+// The rounded product and its error part. A product of so few zeros that it is no whole number of units is below the lower limit.
+pub fn split_product(a: Scientific, b: Scientific, p: Precision) -> Option<(Scientific, Scientific)>
+    requires left { Number (meaning p.digits) (units a) }
+    requires right { Number (meaning p.digits) (units b) }
+    ensures answer { split_valued units result ≡ product_split (meaning p.digits) (units a) (units b) }
+    ensures number { GivesBoth (meaning p.digits) units result }
 {
     if a.significand == 0 {
         return Some((a, a));
@@ -58,7 +34,7 @@ pub fn split_product(a: Scientific, b: Scientific, d: u8) -> Option<(Scientific,
     if zeros < ZEROS_OF_ONE {
         return None;
     }
-    let (main, error) = split_form(significands(a, b), zeros - ZEROS_OF_ONE, d)?;
+    let (main, error) = split_form(significands(a, b), zeros - ZEROS_OF_ONE, p)?;
     if not_below(main) {
         Some((main, error))
     } else {

@@ -18,24 +18,24 @@ size m s f e = e ∙ ap nat_abs (to_z-of_z w32 m f)
 
 pub returns-then-not-in_form : goal.returns-then-not-in_form
 returns-then-not-in_form c =
-    record { answer = parts_other c.args.d c.args.m c.args.e c.unsigned_abs-significand.result c.in-Some.zeros c.requires.most (size c.args.m c.unsigned_abs-significand.result c.ranges.m c.unsigned_abs-significand.ensures.value) (same_e c.args.d c.args.e c.in-Some.zeros c.ranges.e c.in-Some.ensures) c.if-not-in_form.ensures; number = tt }
+    record { answer = parts_other c.args.p c.args.m c.args.e c.unsigned_abs-significand.result c.in-Some.zeros (size c.args.m c.unsigned_abs-significand.result c.ranges.m c.unsigned_abs-significand.ensures.value) (same_e c.args.p.digits c.args.e c.in-Some.zeros c.ranges.e c.in-Some.ensures) c.if-not-in_form.ensures; number = tt }
 
 pub full_form-requires : goal.full_form-requires
 full_form-requires c =
-    let s = few_digits c.args.d c.unsigned_abs-significand.result c.in-Some.zeros (sym c.if-not-in_form.ensures) in
+    let s = few_digits c.args.p.digits c.unsigned_abs-significand.result c.in-Some.zeros (sym c.if-not-in_form.ensures) in
     let t = c.in-Some.ensures.1 in
-    record { short = lt_of_lt_of_le s (tens c.args.d 8 c.requires.most); few = omega (arith, t) }
+    record { short = lt_of_lt_of_le s (tens c.args.p.digits 8 c.args.p.most); few = omega (arith, t) }
 
 pub returns-in-None : goal.returns-in-None
-returns-in-None c = record { answer = admission_out c.args.d c.args.m c.args.e c.requires.most (rw (to_z-of_z w16 c.args.e c.ranges.e) at c.in-None.ensures); number = tt }
+returns-in-None c = record { answer = admission_out c.args.p.digits c.args.m c.args.e c.args.p.most (rw (to_z-of_z w16 c.args.e c.ranges.e) at c.in-None.ensures); number = tt }
 
 pub returns-in-None-full_form : goal.returns-in-None-full_form
 returns-in-None-full_form c =
-    record { answer = parts_large c.args.d c.args.m c.args.e c.unsigned_abs-significand.result c.in-Some.zeros c.requires.most (size c.args.m c.unsigned_abs-significand.result c.ranges.m c.unsigned_abs-significand.ensures.value) (same_e c.args.d c.args.e c.in-Some.zeros c.ranges.e c.in-Some.ensures) _ c.if-not-in_form.ensures c.in-None-full_form.ensures; number = tt }
+    record { answer = parts_large c.args.p c.args.m c.args.e c.unsigned_abs-significand.result c.in-Some.zeros (size c.args.m c.unsigned_abs-significand.result c.ranges.m c.unsigned_abs-significand.ensures.value) (same_e c.args.p.digits c.args.e c.in-Some.zeros c.ranges.e c.in-Some.ensures) _ c.if-not-in_form.ensures c.in-None-full_form.ensures; number = tt }
 
 pub returns-in-Some-full_form : goal.returns-in-Some-full_form
 returns-in-Some-full_form c =
     let x = c.in-Some-full_form.number in
-    let p = parts_number c.args.d c.args.m c.args.e c.unsigned_abs-significand.result c.in-Some.zeros c.requires.most (size c.args.m c.unsigned_abs-significand.result c.ranges.m c.unsigned_abs-significand.ensures.value) (same_e c.args.d c.args.e c.in-Some.zeros c.ranges.e c.in-Some.ensures) (units x) (omega arith) c.if-not-in_form.ensures
+    let p = parts_number c.args.p c.args.m c.args.e c.unsigned_abs-significand.result c.in-Some.zeros (size c.args.m c.unsigned_abs-significand.result c.ranges.m c.unsigned_abs-significand.ensures.value) (same_e c.args.p.digits c.args.e c.in-Some.zeros c.ranges.e c.in-Some.ensures) (units x) c.if-not-in_form.ensures
     (c.in-Some-full_form.ensures ∙ ap (λ (m : ℤ). signed (lt_z m (pos 0)) (size_of c.unsigned_abs-significand.result c.in-Some.zeros)) (to_z-of_z w32 c.args.m c.ranges.m)) (bounded x) in
     record { answer = p.0; number = p.1 }

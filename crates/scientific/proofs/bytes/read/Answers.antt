@@ -12,12 +12,12 @@ pub returns-in-Ok : goal.returns-in-Ok
 returns-in-Ok c =
     let w = c.args.w in
     let t = c.in-Ok.ensures in
-    record { answer = reads_number c.args.d w _ (t.answer ∙ same c.args.d w.m w.e (search rules) (search rules)); number = t.number }
+    record { answer = reads_number c.args.p.digits w _ (t.answer ∙ same c.args.p.digits w.m w.e (search rules) (search rules)); number = t.number }
 
 pub returns-in-Err : goal.returns-in-Err
 returns-in-Err c =
     let w = c.args.w in
     record {
-      answer = c.zero.ensures.answer ∙ reads_none c.args.d w _ (c.in-Err.ensures.answer ∙ same c.args.d w.m w.e (search rules) (search rules));
-      number = c.zero.ensures.number c.args.d c.requires.least c.requires.most;
+      answer = c.zero.ensures.answer ∙ reads_none c.args.p.digits w _ (c.in-Err.ensures.answer ∙ same c.args.p.digits w.m w.e (search rules) (search rules));
+      number = c.zero.ensures.number c.args.p;
     }

@@ -11,7 +11,7 @@ nonzero_div-result c = rw c.power.ensures (some_ten _)
 pub returns : goal.returns
 returns c = record {
   size = ap (λ x. c.args.significand / x) c.power.ensures ∙ cut_size c.args.significand c.args.zeros c.saturating_sub-cut.result;
-  zeros = ap (λ x. c.args.zeros + x) c.saturating_sub-cut.ensures ∙ cut_zeros c.args.significand c.args.zeros c.args.d c.digits.result c.requires.full c.requires.most (c.digits.ensures.under, c.digits.ensures.least);
-  short = lt_of_le_of_lt (div-le_self c.args.significand c.power.result) (full_is c.args.significand c.args.zeros c.requires.full).0;
+  zeros = ap (λ x. c.args.zeros + x) c.saturating_sub-cut.ensures ∙ cut_zeros c.args.significand c.args.zeros c.args.p.digits c.digits.result c.requires c.args.p.most (c.digits.ensures.under, c.digits.ensures.least);
+  short = lt_of_le_of_lt (div-le_self c.args.significand c.power.result) (full_is c.args.significand c.args.zeros c.requires).0;
   few = search rules;
 }

@@ -5,4 +5,4 @@ use Rattle.scientific.proofs.ExactNumbers.{negative_is}
 use Rattle.scientific.proofs.exact.negative.Goals as goal
 
 pub returns : goal.returns
-returns c = let a = c.args.a in let e = negative_is a.negative (size_of a.significand a.zeros) in record { answer = e; number = λ d h l n. rw e ((rules d h l).negative_is_number _ n) }
+returns c = let a = c.args.a in let e = negative_is a.negative (size_of a.significand a.zeros) in record { answer = e; number = λ p n. rw e ((rules p).negative_is_number _ n) }

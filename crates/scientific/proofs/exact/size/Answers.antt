@@ -7,4 +7,4 @@ use Rattle.scientific.proofs.ExactNumbers.{size_is}
 use Rattle.scientific.proofs.exact.size.Goals as goal
 
 pub returns : goal.returns
-returns c = let a = c.args.a in let e = size_is a.negative (size_of a.significand a.zeros) in record { answer = e; number = λ d h l n. rw e (size_number (meaning d) (rules d h l) _ n) }
+returns c = let a = c.args.a in let e = size_is a.negative (size_of a.significand a.zeros) in record { answer = e; number = λ p n. rw e (size_number (meaning p.digits) (rules p) _ n) }

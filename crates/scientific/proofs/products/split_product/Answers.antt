@@ -11,13 +11,13 @@ use Rattle.scientific.proofs.ProductResults.{short_product, split_nil_a, split_n
 use Rattle.scientific.proofs.products.split_product.Goals as goal
 
 pub returns-then-a-eq0 : goal.returns-then-a-eq0
-returns-then-a-eq0 c = record { answer = split_nil_a c.args.d c.requires.least c.args.a c.args.b c.if-a-eq0.true; number = (c.requires.left, c.requires.left) }
+returns-then-a-eq0 c = record { answer = split_nil_a c.args.p c.args.a c.args.b c.if-a-eq0.true; number = (c.requires.left, c.requires.left) }
 
 pub returns-then-b-eq0 : goal.returns-then-b-eq0
-returns-then-b-eq0 c = record { answer = split_nil_b c.args.d c.requires.least c.args.a c.args.b c.if-b-eq0.true; number = (c.requires.right, c.requires.right) }
+returns-then-b-eq0 c = record { answer = split_nil_b c.args.p c.args.a c.args.b c.if-b-eq0.true; number = (c.requires.right, c.requires.right) }
 
 pub returns-then-zeros-lt-ZEROS_OF_ONE : goal.returns-then-zeros-lt-ZEROS_OF_ONE
-returns-then-zeros-lt-ZEROS_OF_ONE c = record { answer = split_tiny c.args.d c.requires.least c.args.a c.args.b c.if-a-eq0.false c.if-b-eq0.false c.if-zeros-lt-ZEROS_OF_ONE.true; number = tt }
+returns-then-zeros-lt-ZEROS_OF_ONE c = record { answer = split_tiny c.args.p c.args.a c.args.b c.if-a-eq0.false c.if-b-eq0.false c.if-zeros-lt-ZEROS_OF_ONE.true; number = tt }
 
 pub split_form-requires : goal.split_form-requires
 split_form-requires c =
@@ -27,22 +27,20 @@ split_form-requires c =
     let y : a.zeros < 256 = search rules in
     let z : b.zeros < 256 = search rules in
     record {
-      some = omega arith;
-      few = c.requires.most;
       near = omega arith;
       small = omega (arith, s.ensures.size, short_product a b);
-      part = part c.args.d c.requires.least a b c.requires.left c.requires.right s.result.size s.ensures.size;
+      part = part c.args.p a b c.requires.left c.requires.right s.result.size s.ensures.size;
     }
 
 pub returns-in_err-main : goal.returns-in_err-main
 returns-in_err-main c =
     let s = c.significands in
     let r = c.from_residual in
-    let n = product_split_not (meaning c.args.d) (units c.args.a) (units c.args.b)
-    (above c.args.d c.requires.least c.args.a c.args.b c.if-a-eq0.false c.if-b-eq0.false s.result.negative s.result.size s.ensures.value c.if-zeros-lt-ZEROS_OF_ONE.false c.in_err-main.ensures) in
+    let n = product_split_not (meaning c.args.p.digits) (units c.args.a) (units c.args.b)
+    (above c.args.p c.args.a c.args.b c.if-a-eq0.false c.if-b-eq0.false s.result.negative s.result.size s.ensures.value c.if-zeros-lt-ZEROS_OF_ONE.false c.in_err-main.ensures) in
     record {
-      answer = subst (λ (o : Option (Scientific × Scientific)). split_valued units o ≡ product_split (meaning c.args.d) (units c.args.a) (units c.args.b)) (sym r.ensures) n;
-      number = subst (λ (o : Option (Scientific × Scientific)). GivesBoth (meaning c.args.d) units o) (sym r.ensures) tt;
+      answer = subst (λ (o : Option (Scientific × Scientific)). split_valued units o ≡ product_split (meaning c.args.p.digits) (units c.args.a) (units c.args.b)) (sym r.ensures) n;
+      number = subst (λ (o : Option (Scientific × Scientific)). GivesBoth (meaning c.args.p.digits) units o) (sym r.ensures) tt;
     }
 
 pub returns-then-not_below : goal.returns-then-not_below
@@ -52,10 +50,10 @@ returns-then-not_below c =
     let y = c.in_ok-main.error in
     let f = c.in_ok-main.ensures in
     record {
-      answer = split_within c.args.d c.requires.least c.args.a c.args.b c.if-a-eq0.false c.if-b-eq0.false s.result.negative s.result.size s.ensures.value c.if-zeros-lt-ZEROS_OF_ONE.false x y f.0 f.1 (c.not_below.ensures.yes c.if-not_below.true);
+      answer = split_within c.args.p c.args.a c.args.b c.if-a-eq0.false c.if-b-eq0.false s.result.negative s.result.size s.ensures.value c.if-zeros-lt-ZEROS_OF_ONE.false x y f.0 f.1 (c.not_below.ensures.yes c.if-not_below.true);
       number = (
-        number c.args.d c.requires.least c.args.a c.args.b c.if-a-eq0.false c.if-b-eq0.false s.result.negative s.result.size s.ensures.value c.if-zeros-lt-ZEROS_OF_ONE.false x f.0,
-        number_of c.args.d (omega arith) y f.2,
+        number c.args.p c.args.a c.args.b c.if-a-eq0.false c.if-b-eq0.false s.result.negative s.result.size s.ensures.value c.if-zeros-lt-ZEROS_OF_ONE.false x f.0,
+        number_of c.args.p.digits (omega arith) y f.2,
       );
     }
 
@@ -65,7 +63,7 @@ returns-else-not_below c =
     let x = c.in_ok-main.main in
     let f = c.in_ok-main.ensures in
     record {
-      answer = product_split_not (meaning c.args.d) (units c.args.a) (units c.args.b)
-          (under c.args.d c.requires.least c.args.a c.args.b c.if-a-eq0.false c.if-b-eq0.false s.result.negative s.result.size s.ensures.value c.if-zeros-lt-ZEROS_OF_ONE.false x f.0 (c.not_below.ensures.no c.if-not_below.false));
+      answer = product_split_not (meaning c.args.p.digits) (units c.args.a) (units c.args.b)
+          (under c.args.p c.args.a c.args.b c.if-a-eq0.false c.if-b-eq0.false s.result.negative s.result.size s.ensures.value c.if-zeros-lt-ZEROS_OF_ONE.false x f.0 (c.not_below.ensures.no c.if-not_below.false));
       number = tt;
     }

@@ -13,9 +13,9 @@ pub returns-then-gap-gt-FAR : goal.returns-then-gap-gt-FAR
 returns-then-gap-gt-FAR c =
     let a = c.args.coarse in
     let b = c.args.fine in
-    let f = far_sum c.args.d c.requires.least c.requires.most a b c.requires.left c.requires.right c.if-gap-gt-FAR.true in
+    let f = far_sum c.args.p a b c.requires.left c.requires.right c.if-gap-gt-FAR.true in
     record {
-      answer = sum_split_answer c.args.d (omega arith) (units a) (units b) (Some (a, b)) (f, refl, digits_of c.args.d (omega arith) (units b) c.requires.right);
+      answer = sum_split_answer c.args.p.digits (omega arith) (units a) (units b) (Some (a, b)) (f, refl, digits_of c.args.p.digits (omega arith) (units b) c.requires.right);
       number = (c.requires.left, c.requires.right);
     }
 
@@ -26,22 +26,20 @@ split_form-requires c =
     let s = c.aligned.result in
     let z : b.zeros < 256 = search rules in
     record {
-      some = omega arith;
-      few = c.requires.most;
       near = omega arith;
       small = c.aligned.ensures.small;
-      part = part c.args.d c.requires.least c.requires.most a b c.requires.left c.requires.right s.negative s.size (a.zeros - b.zeros) (sub-add_cancel c.requires.order) c.aligned.ensures.value;
+      part = part c.args.p a b c.requires.left c.requires.right s.negative s.size (a.zeros - b.zeros) (sub-add_cancel c.requires.order) c.aligned.ensures.value;
     }
 
 pub returns : goal.returns
 returns c =
-    let d = c.args.d in
+    let p = c.args.p in
     let a = c.args.coarse in
     let b = c.args.fine in
     let s = c.aligned.result in
     let r = c.split_form.result in
-    let e = exact d c.requires.least c.requires.most a b c.requires.left c.requires.right s.negative s.size (a.zeros - b.zeros) (sub-add_cancel c.requires.order) c.aligned.ensures.value in
-    let n = near_sum d c.requires.least c.requires.most a b c.requires.left c.requires.right s.negative s.size (a.zeros - b.zeros) (sub-add_cancel c.requires.order) c.aligned.ensures.value in
-    let f = subst (λ (z : ℤ). SplitFormed d z (units a +ℤ units b) r) n
-    (subst (λ (z : ℤ). SplitFormed d (signed s.negative (size_of (rounded 10 d s.size 1) b.zeros)) z r) (sym e) c.split_form.ensures) in
-    record { answer = sum_split_answer d (omega arith) (units a) (units b) r f; number = sum_split_numbers d (omega arith) (units a) (units b) r f }
+    let e = exact p a b c.requires.left c.requires.right s.negative s.size (a.zeros - b.zeros) (sub-add_cancel c.requires.order) c.aligned.ensures.value in
+    let n = near_sum p a b c.requires.left c.requires.right s.negative s.size (a.zeros - b.zeros) (sub-add_cancel c.requires.order) c.aligned.ensures.value in
+    let f = subst (λ (z : ℤ). SplitFormed p.digits z (units a +ℤ units b) r) n
+    (subst (λ (z : ℤ). SplitFormed p.digits (signed s.negative (size_of (rounded 10 p.digits s.size 1) b.zeros)) z r) (sym e) c.split_form.ensures) in
+    record { answer = sum_split_answer p.digits (omega arith) (units a) (units b) r f; number = sum_split_numbers p.digits (omega arith) (units a) (units b) r f }
