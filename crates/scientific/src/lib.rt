@@ -15,7 +15,6 @@ pub mod products;
 mod rounded;
 pub mod sums;
 mod tables;
-mod whole;
 pub mod written;
 
 // Where another number of d digits is as near to a fraction as its rounding, the rounding is written with an even M.

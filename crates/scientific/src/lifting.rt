@@ -23,9 +23,8 @@ pub fn lift(a: Scientific, k: u8, p: Precision) -> Option<Scientific>
         return Some(a);
     }
     let whole = roundoffs_in_one(p);
-    let r = round_fraction(a.significand as u64 * whole, whole - k as u64, p);
-    let x = exact_form(a.negative, r.significand, r.zeros + a.zeros as u32)?;
-    if not_below(x) { Some(x) } else { None }
+    let r = round_fraction(a.significand as i64 * whole as i64, whole - k as u64, p);
+    exact_form(r.significand, r.zeros + a.zeros as u32).filter(|x| not_below(*x))
 }
 
 // How many u make 1.

@@ -1,6 +1,6 @@
 -- The power lies between 10^3 and 10^7.
 use Rattle.std.proofs.Common.{ℕ, ◌-◌, ◌*◌, ap, arith}
-use Rattle.scientific.proofs.Limits.{tens}
+use Rattle.scientific.proofs.Tens.{tens}
 use Rattle.scientific.proofs.lifting.roundoffs_in_one.Goals as goal
 
 pub returns : goal.returns
