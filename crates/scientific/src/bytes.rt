@@ -62,11 +62,11 @@ pub fn admit(bytes: &[u8; 8], p: Precision) -> Result<Scientific, Cause>
     ensures answer { admission units result ≡ (meaning p.digits).admit bytes.now }
     ensures number { Admits (meaning p.digits) units result }
 {
-    if bytes[6] != 0 || bytes[7] != 0 {
+    let [m0, m1, m2, m3, e0, e1, 0, 0] = *bytes else {
         return Err(Cause::NotInOneForm);
-    }
-    let m = i32::from_be_bytes([bytes[0], bytes[1], bytes[2], bytes[3]]);
-    let e = i16::from_be_bytes([bytes[4], bytes[5]]);
+    };
+    let m = i32::from_be_bytes([m0, m1, m2, m3]);
+    let e = i16::from_be_bytes([e0, e1]);
     checked(m, e, p)
 }
 
