@@ -38,7 +38,9 @@ impl Arithmetic for Decimal {
 
     ghost value = { units };
 
-    ghost rules = { λ s. TheRules.rules s.precision };
+    ghost lawful = { λ _. Unit {0} };
+
+    ghost rules = { λ s h. TheRules.rules s.precision };
 
     fn split_sum(&mut self, a: Scientific, b: Scientific) -> Option<(Scientific, Scientific)> {
         sums::split_sum(a, b, self.precision)
