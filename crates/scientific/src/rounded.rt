@@ -10,7 +10,8 @@ use crate::number::Scientific;
 use crate::precision::Precision;
 use crate::tables::power;
 
-// n with zeros behind it, rounded, and its error part, which has to be a number; none where the former is above 10^40.
+// n with zeros behind it, rounded, and its error part, which has to be a number; none where the former is above 10^40. The latter is
+// no larger, so it is then a number too.
 pub fn split_form(n: i64, zeros: u32, p: Precision) -> Option<(Scientific, Scientific)>
     requires near { zeros ≤ 500 }
     requires small { unsigned_abs n < 2 ^ 62 }
@@ -19,6 +20,6 @@ pub fn split_form(n: i64, zeros: u32, p: Precision) -> Option<(Scientific, Scien
 {
     let r = round_fraction(n, 1, p);
     let main = exact_form(r.significand, r.zeros + zeros)?;
-    let error = exact_form(n - r.significand * power(r.zeros) as i64, zeros)?;
+    let error = exact_form(n - r.significand * power(r.zeros) as i64, zeros).unwrap();
     Some((main, error))
 }

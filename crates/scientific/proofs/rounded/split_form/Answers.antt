@@ -1,14 +1,17 @@
 -- The rounded part is at most twice n, and the error part no more than n, so nothing overflows. Zeros stand behind both parts, and
--- where the error part is above 10^40, the rounded one is.
-use Rattle.std.proofs.Common.{◌≡◌, ℕ, ◌+◌, ◌^◌, ◌<◌, ◌≤◌, ℤ, ◌-ℤ◌, ◌*ℤ◌, nat_abs, None, Option, sym, ap, ◌∙◌, subst, arith, w64, SFits, to_z, of_z}
+-- where the error part is above 10^40, the rounded one is; so it is not, once the rounded one is a number.
+use Rattle.std.proofs.Common.{◌≡◌, refl, ℕ, ◌+◌, ◌^◌, ◌<◌, ◌≤◌, ℤ, ◌-ℤ◌, ◌*ℤ◌, nat_abs, None, Some, Option, sym, ap, ◌∙◌, subst, lt_irrefl, lt_of_lt_of_le, arith, w64, SFits, to_z, of_z}
 use Rattle.rounding.specs.Digits.{Digits}
 use Rattle.scientific.specs.declared.nearest.Rounded.{Rounded}
 use Rattle.scientific.specs.declared.precision.Precision.{Precision}
 use Rattle.scientific.specs.declared.number.Scientific.{Scientific}
 use Rattle.scientific.specs.Forms.{with_zeros, highest}
+use Rattle.scientific.specs.Numbers.{units, Formed}
 use Rattle.scientific.specs.Splits.{SplitFormed, rounded_to, error}
 use Rattle.scientific.proofs.Casts.{in_digits, wide, in_64, power_is, power_fits}
-use Rattle.scientific.proofs.Values.{with_more}
+use Rattle.std.specs.Option.{IsSome}
+use Rattle.scientific.proofs.Limits.{small_is}
+use Rattle.scientific.proofs.Values.{size_with, with_more}
 use Rattle.scientific.proofs.ErrorPart.{short_digits, more_digits, error_at_most_own, rounded_at_most_double, rounded_with, error_with, error_digits, error_above}
 use Rattle.scientific.proofs.rounded.split_form.Goals as goal
 
@@ -58,6 +61,16 @@ module _ (p : Precision) (n : ℤ) (r : Rounded) (small : nat_abs n < 2 ^ 62) (v
     held : to_z w64 (of_z w64 (to_z w64 (of_z w64 n) -ℤ to_z w64 (of_z w64 (to_z w64 (of_z w64 r.significand) *ℤ to_z w64 x)))) ≡ error d n
     held = rw rest (in_64 (error d n) less)
 
+formed_as : (z : ℤ) (r : Option Scientific) (x : Scientific) → r ≡ Some x → Formed z r → units x ≡ z
+formed_as z r x e h = subst (Formed z) e h
+
+some_within : (z : ℤ) (r : Option Scientific) → Formed z r → (highest < nat_abs z → ⊥) → IsSome r
+some_within z (Some x) h f = refl
+some_within z None h f = absurd (f h)
+
+number_within : (x : Scientific) → nat_abs (units x) ≤ highest
+number_within x = rw (size_with x.significand x.zeros) (small_is (nat_abs x.significand) x.zeros x.small)
+
 refused : (d : ℕ) (z : ℤ) (r : Option (Scientific × Scientific)) → r ≡ None → highest < nat_abs (rounded_to d z) → SplitFormed d z r
 refused d z r e h = subst (SplitFormed d z) (sym e) h
 
@@ -86,14 +99,18 @@ exact_form-requires-2 c =
     rw (held c.args.p c.args.n r.result c.requires.small r.ensures.value r.ensures.short c.power.result c.power.ensures r.ensures.few)
     (record { short = more_digits d (nat_abs (error d c.args.n)) c.args.p.most e; few = omega arith })
 
-pub returns-in_err-error : goal.returns-in_err-error
-returns-in_err-error c =
+-- the error part is not above the limit, since the rounded one is a number
+pub unwrap-error-requires : goal.unwrap-error-requires
+unwrap-error-requires c =
     let r = c.round_fraction-r in
-    let h = rw (held c.args.p c.args.n r.result c.requires.small r.ensures.value r.ensures.short c.power.result c.power.ensures r.ensures.few) at c.in_err-error.ensures in
-    refused c.args.p.digits (with_zeros c.args.n c.args.zeros) c.from_residual-in_err-error.result c.from_residual-in_err-error.ensures (error_above c.args.p.digits c.args.n (omega arith) c.args.zeros highest h)
+    let k = c.args.zeros in
+    let d = c.args.p.digits in
+    let h = rw (held c.args.p c.args.n r.result c.requires.small r.ensures.value r.ensures.short c.power.result c.power.ensures r.ensures.few) at c.exact_form-2.ensures in
+    let m : nat_abs (rounded_to d (with_zeros c.args.n k)) ≤ highest = subst (λ (z : ℤ). nat_abs z ≤ highest) (c.in_ok-main.ensures ∙ main c.args.p c.args.n r.result c.requires.small r.ensures.value r.ensures.short k) (number_within c.in_ok-main.main) in
+    some_within (with_zeros (error d c.args.n) k) _ h (λ a. let b = error_above d c.args.n (omega arith) k highest a in lt_irrefl highest (lt_of_lt_of_le b m))
 
 pub returns : goal.returns
 returns c =
     let r = c.round_fraction-r in
-    let h = rw (held c.args.p c.args.n r.result c.requires.small r.ensures.value r.ensures.short c.power.result c.power.ensures r.ensures.few) at c.in_ok-error.ensures in
-    (c.in_ok-main.ensures ∙ main c.args.p c.args.n r.result c.requires.small r.ensures.value r.ensures.short c.args.zeros, h ∙ error_with c.args.p.digits c.args.n (omega arith) c.args.zeros)
+    let h = rw (held c.args.p c.args.n r.result c.requires.small r.ensures.value r.ensures.short c.power.result c.power.ensures r.ensures.few) at c.exact_form-2.ensures in
+    (c.in_ok-main.ensures ∙ main c.args.p c.args.n r.result c.requires.small r.ensures.value r.ensures.short c.args.zeros, formed_as (with_zeros (error c.args.p.digits c.args.n) c.args.zeros) _ _ c.unwrap-error.ensures h ∙ error_with c.args.p.digits c.args.n (omega arith) c.args.zeros)
