@@ -7,5 +7,5 @@ use Rattle.row.specs.declared.cell.Cell.{Cell}
 use Rattle.row.specs.Reading.{reading, readings}
 
 -- the values read from a cell of a row, where the arithmetic is set as before, are those of the row's readings
-pub reads_at : {P : Type 0} (st st' : Setting P) (row : List (Cell P)) (j : ℕ) (c : Cell P) (v : Values) → v ≡ reading st' c → st' ≡ st → c ≡ get_or row j c → j < length row → v ≡ cell (readings st row) j
-reads_at st st' row j c v r same is h = cc (get_or-map (reading st) row j c no_cell h)
+pub reads_at : {P : Type 0} (st st' : Setting P) (row : List (Cell P)) (j : ℕ) (c d : Cell P) (v : Values) → v ≡ reading st' c → st' ≡ st → c ≡ get_or row j d → j < length row → v ≡ cell (readings st row) j
+reads_at st st' row j c d v r same is h = cc (get_or-map (reading st) row j d no_cell h)

@@ -1,5 +1,6 @@
--- The writing goes from order n down to 1, as the trial did. At order k the cells above k are written and those up to k are the old
--- ones; writing the orders from k down onto the row as it stands gives the whole addition. `Writing` is what holds then.
+-- The writing goes from order n down to 1, as the trial did, over the cells that follow the cell of order 0. At order k those above k
+-- are written and those up to k are the old ones; writing the orders from k down onto the row as it stands gives the whole addition.
+-- `Writing` is what holds then.
 use Rattle.std.proofs.Common.{◌≡◌, ℕ, zero, suc, ◌<◌, ◌≤◌, List, [], ◌∷◌, length, get_or, take, drop, set, ℤ, Ok, Err, Result, sym, refl, ap, ◌∙◌, subst, arith, length-set, get_or-set_other, get_or-take, get_or-set_same, drop-set-lt}
 use native.Mathlib.Decide.{ℕ_discrete}
 use lib.Seq.{map-set, take-set-le}
@@ -13,12 +14,13 @@ use Rattle.row.specs.Reading.{reading, readings, Canonical}
 use Rattle.row.specs.Answers.{tried, Tells, Added}
 use Rattle.row.proofs.Cells.{reads_at}
 use Rattle.row.proofs.Orders.{onto, row_onto, onto_none, onto_done, onto_stopped}
+use Rattle.row.proofs.Trying.{by_row}
 
-pub record Writing {P : Type 0} (st : Setting P) (x : ℤ) (n : ℕ) (L₀ L : List (Cell P)) (k : ℕ) : Type 0 where
-  pub whole : row_after st.meaning x (readings st L₀) n ≡ onto st.meaning x (readings st L₀) (readings st L) k
-  pub plain : (i : ℕ) → k ≤ i → i < n → (d : Cell P) → Canonical st (get_or L (suc i) d)
-  pub old : take (suc k) L ≡ take (suc k) L₀
-  pub beyond : drop (suc n) L ≡ drop (suc n) L₀
+pub record Writing {P : Type 0} (st : Setting P) (x : ℤ) (n : ℕ) (first : Cell P) (L₀ L : List (Cell P)) (k : ℕ) : Type 0 where
+  pub whole : row_after st.meaning x (readings st (first ∷ L₀)) n ≡ onto st.meaning x (readings st (first ∷ L₀)) (readings st (first ∷ L)) k
+  pub plain : (i : ℕ) → k ≤ i → i < n → (d : Cell P) → Canonical st (get_or L i d)
+  pub old : take k L ≡ take k L₀
+  pub beyond : drop n L ≡ drop n L₀
   pub long : length L ≡ length L₀
 
 one_less : {X : Type 0} (k : ℕ) (l l' : List X) → take (suc k) l ≡ take (suc k) l' → take k l ≡ take k l'
@@ -29,45 +31,54 @@ one_less {X} k l l' e = sym (fewer k l) ∙ ap (take k) e ∙ fewer k l'
     fewer (suc k) [] = refl
     fewer (suc k) (z ∷ l) = ap (λ t. z ∷ t) (fewer k l)
 
-module _ {P : Type 0} (st : Setting P) (x : ℤ) (n : ℕ) (L₀ L : List (Cell P)) (k : ℕ) where
-  pub begins : L ≡ L₀ → k ≡ n → Writing st x n L₀ L k
-  begins e f = rw (e, f) (record { whole = row_onto st.meaning x (readings st L₀) n; plain = λ i a b d. absurd (omega arith); old = refl; beyond = refl; long = refl })
+pub begins : {P : Type 0} (st : Setting P) (x : ℤ) (n : ℕ) (first : Cell P) (L : List (Cell P)) → Writing st x n first L L n
+begins st x n first L = record { whole = row_onto st.meaning x (readings st (first ∷ L)) n; plain = λ i a b d. absurd (omega arith); old = refl; beyond = refl; long = refl }
 
-  pub ends : Writing st x n L₀ L k → k ≡ 0 → Tells (Ok tt) (row_after st.meaning x (readings st L₀) n) → Added st x n (Ok tt) L₀ L
-  ends w z t = record {
-    defined = sym (w.whole ∙ ap (onto st.meaning x (readings st L₀) (readings st L)) z ∙ onto_none st.meaning x (readings st L₀) (readings st L));
+module _ {P : Type 0} {st : Setting P} {x : ℤ} {n : ℕ} {first : Cell P} {L₀ L : List (Cell P)} {k : ℕ} (w : Writing st x n first L₀ L k) where
+  abbrev old_row : List Values
+  old_row = readings st (first ∷ L₀)
+
+  abbrev row : List Values
+  row = readings st (first ∷ L)
+
+  pub ends : k ≡ 0 → Added st x n (Ok tt) (first ∷ L₀) (first ∷ L)
+  ends z = record {
+    defined = sym (w.whole ∙ ap (onto st.meaning x old_row row) z ∙ onto_none st.meaning x old_row row);
     plain = λ _ j h d. w.plain j (omega arith) h d;
     refused = λ e. absurd (let f : ◌≡◌ {A = ℕ} 0 1 = cc in omega arith);
-    first = let h : Writing st x n L₀ L 0 = subst (Writing st x n L₀ L) z w in h.old;
+    first = refl;
     beyond = w.beyond;
-    long = w.long;
+    long = ap suc w.long;
   }
 
-  -- the old cell j = k − 1, read from the row as it stands
-  pub reads_old : Writing st x n L₀ L k → (j : ℕ) (c : Cell P) (st' : Setting P) (v : Values) → v ≡ reading st' c → st' ≡ st → c ≡ get_or L j c → j < k → k < length L₀ → v ≡ cell (readings st L₀) j
-  reads_old w j c st' v r same is h l = reads_at st st' L₀ j c v r same (is ∙ sym (get_or-take (suc k) L j c (omega arith)) ∙ ap (λ l. get_or l j c) w.old ∙ get_or-take (suc k) L₀ j c (omega arith)) (omega arith)
+  -- one order, k, which is j + 1: the numbers of the cell j, read from the row as it stands, and a step that answered u
+  module _ {st' : Setting P} (same : st' ≡ st) (inside : k ≤ n) (within : n ≤ length L₀) {j : ℕ} (at : k ≡ suc j) {c : Cell P} {old prior : Values} (old_is : old ≡ cell old_row k) (read : prior ≡ reading st' c) (is : c ≡ get_or (first ∷ L) j first) where
+    pub prior_is : prior ≡ cell old_row j
+    prior_is = reads_at st st' (first ∷ L₀) j c first prior read same (is ∙ sym (get_or-take (suc k) (first ∷ L) j first (omega arith)) ∙ ap (λ l. get_or (first ∷ l) j first) w.old ∙ get_or-take (suc k) (first ∷ L₀) j first (omega arith)) (omega arith)
 
-  -- one order, k, which is j + 1
-  module _ (w : Writing st x n L₀ L k) (j : ℕ) (at : k ≡ suc j) (u : Result (Cell P) Operation) (step : tried st u ≡ new_cell st.meaning x (cell (readings st L₀) (suc j)) (cell (readings st L₀) j)) where
-    -- a refusal would be that of the whole addition
-    pub not_stopped : Tells (Ok tt) (row_after st.meaning x (readings st L₀) n) → IsOk u
-    not_stopped t = by u step
-      where
-        by : (u : Result (Cell P) Operation) → tried st u ≡ new_cell st.meaning x (cell (readings st L₀) (suc j)) (cell (readings st L₀) j) → IsOk u
-        by (Ok c) e = refl
-        by (Err o) e =
-            let f : written t.0 ≡ refused_at (suc j) (operation_number o) = t.1 ∙ w.whole ∙ ap (onto st.meaning x (readings st L₀) (readings st L)) at ∙ onto_stopped st.meaning x (readings st L₀) (readings st L) j (operation_number o) e in
-            absurd (cc f)
+    module _ (u : Result (Cell P) Operation) (step : tried st' u ≡ new_cell st'.meaning x old prior) where
+      old_step : tried st u ≡ new_cell st.meaning x (cell old_row (suc j)) (cell old_row j)
+      old_step = by_row st st' x (first ∷ L₀) k j old prior at same old_is prior_is u step
 
-    pub next : (new : Cell P) → u ≡ Ok new → Canonical st new → n < length L₀ → k ≤ n → Writing st x n L₀ (set L k new) j
-    next new e p h h' = rw at (record {
-      whole = w.whole ∙ ap (onto st.meaning x (readings st L₀) (readings st L)) at ∙ onto_done st.meaning x (readings st L₀) (readings st L) j (reading st new) (ap (tried st) (sym e) ∙ step) ∙ ap (λ l. onto st.meaning x (readings st L₀) l j) (sym (map-set (reading st) L (suc j) new));
-      plain = λ i a b d. at_least i a b d (ℕ_discrete i j);
-      old = take-set-le (suc j) L (suc j) new (omega arith) ∙ one_less (suc j) L L₀ (rw at at w.old);
-      beyond = drop-set-lt (suc n) L (suc j) new (omega arith) ∙ w.beyond;
-      long = length-set L (suc j) new ∙ w.long;
-    })
-      where
-        at_least : (i : ℕ) → j ≤ i → i < n → (d : Cell P) → Dec (i ≡ j) → Canonical st (get_or (set L (suc j) new) (suc i) d)
-        at_least i a b d (yes q) = subst (λ (i : ℕ). Canonical st (get_or (set L (suc j) new) (suc i) d)) (sym q) (subst (Canonical st) (sym (get_or-set_same L (suc j) new d (omega (arith, w.long)))) p)
-        at_least i a b d (no q) = subst (Canonical st) (sym (get_or-set_other L (suc j) (suc i) new d (λ r. q (omega arith)))) (w.plain i (omega arith) b d)
+      -- a refusal would be that of the whole addition
+      pub not_stopped : Tells (Ok tt) (row_after st.meaning x old_row n) → IsOk u
+      not_stopped t = by u old_step
+        where
+          by : (u : Result (Cell P) Operation) → tried st u ≡ new_cell st.meaning x (cell old_row (suc j)) (cell old_row j) → IsOk u
+          by (Ok c) e = refl
+          by (Err o) e =
+              let f : written t.0 ≡ refused_at (suc j) (operation_number o) = t.1 ∙ w.whole ∙ ap (onto st.meaning x old_row row) at ∙ onto_stopped st.meaning x old_row row j (operation_number o) e in
+              absurd (cc f)
+
+      pub next : (new : Cell P) → u ≡ Ok new → Canonical st new → Writing st x n first L₀ (set L j new) j
+      next new e p = record {
+        whole = w.whole ∙ ap (onto st.meaning x old_row row) at ∙ onto_done st.meaning x old_row row j (reading st new) (ap (tried st) (sym e) ∙ old_step) ∙ ap (λ l. onto st.meaning x old_row (reading st first ∷ l) j) (sym (map-set (reading st) L j new));
+        plain = λ i a b d. at_least i a b d (ℕ_discrete i j);
+        old = take-set-le j L j new (omega arith) ∙ one_less j L L₀ (rw at at w.old);
+        beyond = drop-set-lt n L j new (omega arith) ∙ w.beyond;
+        long = length-set L j new ∙ w.long;
+      }
+        where
+          at_least : (i : ℕ) → j ≤ i → i < n → (d : Cell P) → Dec (i ≡ j) → Canonical st (get_or (set L j new) i d)
+          at_least i a b d (yes q) = subst (λ (i : ℕ). Canonical st (get_or (set L j new) i d)) (sym q) (subst (Canonical st) (sym (get_or-set_same L j new d (omega (arith, w.long)))) p)
+          at_least i a b d (no q) = subst (Canonical st) (sym (get_or-set_other L j i new d (λ r. q (omega arith)))) (w.plain i (omega arith) b d)

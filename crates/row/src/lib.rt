@@ -1,7 +1,7 @@
 // The row of a bench: reading a cell, adding one zero, and making the row new. Generic over the arithmetic.
 #![tactic(auto)]
 
-ghost use Rattle.std.specs.Prelude.{◌≡◌, ◌-◌, ◌<◌, min, length, replicate, Ok};
+ghost use Rattle.std.specs.Prelude.{◌≡◌, ◌-◌, ◌<◌, ◌≤◌, min, ◌∷◌, length, replicate, Ok, slice_index_or};
 ghost use Rattle.arithmetic.specs.Meaning.{Number as IsNumber};
 ghost use Rattle.arithmetic.specs.Setting.{Stays};
 ghost use Rattle.coefficients.specs.Row.{new_cell, row_after};
@@ -91,25 +91,40 @@ fn try_orders<A: Arithmetic>(
     Ok(())
 }
 
-// Writes the orders n down to 1 of an addition that was tried and not refused.
-fn write_orders<A: Arithmetic>(arith: &mut A, x: A::Number, row: &mut [Cell<A::Plain>], n: usize)
+// The cell of an order, from the cell of order 0 and those that follow it.
+fn cell_of<P: Copy>(first: Cell<P>, rest: &[Cell<P>], order: usize) -> Cell<P>
+    requires { order ≤ length rest.now }
+    ensures { result ≡ slice_index_or (first ∷ rest.now) order first }
+{
+    if order == 0 { first } else { rest[order - 1] }
+}
+
+// Writes the orders n down to 1 of an addition that was tried and not refused. Order k stands at rest[k − 1]; the cell of order 0 is
+// given beside them, to be read.
+fn write_orders<A: Arithmetic>(
+    arith: &mut A,
+    x: A::Number,
+    first: Cell<A::Plain>,
+    rest: &mut [Cell<A::Plain>],
+    n: usize,
+)
     requires law { A.lawful arith.old }
     requires number { IsNumber (A.setting arith.old).meaning (A.value x) }
-    requires within { n < length row.old }
-    requires tried { Tells (Ok tt) (row_after (A.setting arith.old).meaning (A.value x) (readings (A.setting arith.old) row.old) n) }
-    ensures cells { Added (A.setting arith.old) (A.value x) n (Ok tt) row.old row.new }
+    requires within { n ≤ length rest.old }
+    requires tried { Tells (Ok tt) (row_after (A.setting arith.old).meaning (A.value x) (readings (A.setting arith.old) (first ∷ rest.old)) n) }
+    ensures cells { Added (A.setting arith.old) (A.value x) n (Ok tt) (first ∷ rest.old) (first ∷ rest.new) }
     ensures arith { Stays A.setting A.lawful arith.old arith.new }
 {
-    let mut old = read(arith, row[n]);
+    let mut old = read(arith, cell_of(first, rest, n));
     for order in (1..=n).rev() {
-        let before = read(arith, row[order - 1]);
-        row[order] = update(arith, x, old, before).unwrap();
+        let before = read(arith, cell_of(first, rest, order - 1));
+        rest[order - 1] = update(arith, x, old, before).unwrap();
         old = before;
     }
 }
 
 // Adds the zero x as zero number `number`: to the orders 1 to min(number, K), where the row has K + 1 cells. The row is tried whole
-// before a cell is written.
+// before a cell is written; then the part that starts at cell 1 is lent on to be written, so cell 0 stays.
 #[tactic(auto, using(crate::proofs::Trying::refused))]
 pub fn add<A: Arithmetic>(
     arith: &mut A,
@@ -125,7 +140,7 @@ pub fn add<A: Arithmetic>(
 {
     let n = number.min(row.len() - 1);
     try_orders(arith, x, row, n)?;
-    write_orders(arith, x, row, n);
+    write_orders(arith, x, row[0], &mut row[1..], n);
     Ok(())
 }
 

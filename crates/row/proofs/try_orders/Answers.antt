@@ -10,7 +10,7 @@ returns-in_err-map_err-clause-answer g c =
     let i = c.loop-order.invariant in
     let k = c.loop-order.order-counter in
     let at : k ≡ suc (k - 1) = omega arith in
-    let prior = reads_at _ _ _ (k - 1) _ _ c.read-before.ensures.answer i.arith.same c.index-row-order.is (omega arith) in
+    let prior = reads_at _ _ _ (k - 1) _ c.index-row-order.result _ c.read-before.ensures.answer i.arith.same c.index-row-order.is (omega arith) in
     i.told _ (told_stopped _ _ _ _ _ _ _ _ at i.arith.same i.reads prior _ c.update.ensures.answer c.in_err-map_err.field-0.0 (search rules) (search rules) _ (search rules))
 
 pub loop-order-preserved : goal.loop-order-preserved
@@ -18,7 +18,7 @@ loop-order-preserved g c =
     let i = c.loop-order.invariant in
     let k = c.loop-order.order-counter in
     let at : k ≡ suc (k - 1) = omega arith in
-    let prior = reads_at _ _ _ (k - 1) _ _ c.read-before.ensures.answer i.arith.same c.index-row-order.is (omega arith) in
+    let prior = reads_at _ _ _ (k - 1) _ c.index-row-order.result _ c.read-before.ensures.answer i.arith.same c.index-row-order.is (omega arith) in
     record {
       told = λ r t. i.told r (told_done _ _ _ _ _ _ _ _ at i.arith.same i.reads prior _ c.update.ensures.answer c.in_ok-map_err.field-0 (search rules) r t);
       reads = prior;
