@@ -23,6 +23,7 @@ abbrev pub GivesNumbers : {N E : Type 0} → Meaning → (N → ℤ) → Result 
 GivesNumbers m value (Ok c) = Number m (value c.0) × Number m (value c.1)
 GivesNumbers m value (Err e) = Unit {0}
 
+-- a verdict of the code, as one of the definitions
 abbrev pub told_verdict : Verdict → Defined
 told_verdict Right = right
 told_verdict Wrong = wrong

@@ -37,5 +37,6 @@ module _ {P : Type 0} (st : Setting P) (row : List (Cell P)) (o z : P) (some : 0
   pub renewed_reads : st.reads o ≡ pos st.meaning.Q → st.reads z ≡ pos 0 → readings st (set row 0 (lone o z)) ≡ new_row st.meaning (length row - 1)
   renewed_reads o_reads z_reads = cc (ap (readings st) shape, map_replicate (reading st) (length row - 1) (lone z z))
 
+-- a list whose first place is set keeps its length
 pub first_set_long : {X : Type 0} (row : List X) (x : X) → length (set row 0 x) ≡ length row
 first_set_long row x = length-set row 0 x

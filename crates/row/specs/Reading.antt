@@ -19,6 +19,7 @@ pub record AreNumbers {N : Type 0} (m : Meaning) (value : N → ℤ) (c : Cell N
 abbrev pub reading : {P : Type 0} → Setting P → Cell P → Values
 reading st c = values st.reads c
 
+-- what the plain cells of a row read as, order by order
 abbrev pub readings : {P : Type 0} → Setting P → List (Cell P) → List Values
 readings st row = map (reading st) row
 
