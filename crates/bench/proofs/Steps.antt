@@ -10,7 +10,7 @@ use Rattle.arithmetic.specs.Rules.{Rules}
 use Rattle.arithmetic.specs.Setting.{Setting}
 use Rattle.coefficients.specs.Row.{Cell as Values, cell, no_cell, new_row, Trial, done, stopped, Update, written, refused_at, row_after}
 use Rattle.coefficients.specs.Closing.{Closed, close, Verdict, verdict}
-use Rattle.coefficients.specs.Calls.{Making, State, Call, Answer, Step, step, refuse, new_bench, add_updated, add_number, add_admitted, ask_closed, order_checked, mark_judged, mark_closed, mark_numbers, mark_tolerance, mark_admitted, add, clear, ask, issue, mark, withdraw, added, cleared, asked, issued, marked, withdrawn, refused}
+use Rattle.coefficients.specs.Calls.{Making, State, Call, Answer, Step, step, refuse, add_updated, add_number, add_admitted, ask_closed, order_checked, mark_judged, mark_closed, mark_numbers, mark_tolerance, mark_admitted, add, clear, ask, issue, mark, withdraw, added, cleared, asked, issued, marked, withdrawn, refused}
 use Rattle.coefficients.proofs.Books.{call_law}
 use Rattle.row.specs.declared.cell.Cell.{Cell}
 use Rattle.row.specs.Reading.{reading, readings}
@@ -28,6 +28,10 @@ err_is e = cc
 -- a cell of the row
 pub at_row : {P : Type 0} (st : Setting P) (row : List (Cell P)) (k : ℕ) (c : Cell P) → k < length row → c ≡ get_or row k c → reading st c ≡ cell (readings st row) k
 at_row st row k c h e = ap (reading st) e ∙ sym (get_or-map (reading st) row k c no_cell h)
+
+-- closing a cell of the row is closing that order
+pub closed_in_row : {P : Type 0} (st : Setting P) (row : List (Cell P)) (held k : ℕ) (c : Cell P) → k < length row → c ≡ get_or row k c → {t : Trial Closed} → t ≡ close st.meaning (reading st c) held k → t ≡ close st.meaning (cell (readings st row) k) held k
+closed_in_row st row held k c h e f = f ∙ ap (λ r. close st.meaning r held k) (at_row st row k c h e)
 
 -- an order that is answered stands in the row
 pub order_in_row : (K n k : ℕ) → Ok tt ≡ order_outcome K n k → k ≤ K
@@ -72,13 +76,13 @@ module _ (b : Making) (R : Rules b.meaning) (s : State) where
     unfolding step
     ask_refused r e = by_step _ _ _ (order_refused k _ r e)
 
-    pub ask_8 : Ok tt ≡ order_outcome b.K s.held k → (c : Values) → c ≡ cell s.row k → (o : ℕ) → stopped o ≡ close b.meaning c s.held k → Called b s s (ask k) (refused 8 (o ∷ []))
+    pub ask_8 : Ok tt ≡ order_outcome b.K s.held k → (o : ℕ) → stopped o ≡ close b.meaning (cell s.row k) s.held k → Called b s s (ask k) (refused 8 (o ∷ []))
     unfolding step
-    ask_8 h c e o f = by_step _ _ _ (order_passed k _ h ∙ ap (λ t. ask_closed s t) (ap (λ c. close b.meaning c s.held k) (sym e) ∙ sym f))
+    ask_8 h o f = by_step _ _ _ (order_passed k _ h ∙ ap (λ t. ask_closed s t) (sym f))
 
-    pub ask_ok : Ok tt ≡ order_outcome b.K s.held k → (c : Values) → c ≡ cell s.row k → (v e : ℤ) → done (record { value = v; bound = e }) ≡ close b.meaning c s.held k → Called b s s (ask k) (asked v e)
+    pub ask_ok : Ok tt ≡ order_outcome b.K s.held k → (v e : ℤ) → done (record { value = v; bound = e }) ≡ close b.meaning (cell s.row k) s.held k → Called b s s (ask k) (asked v e)
     unfolding step
-    ask_ok h c i v e f = by_step _ _ _ (order_passed k _ h ∙ ap (λ t. ask_closed s t) (ap (λ c. close b.meaning c s.held k) (sym i) ∙ sym f))
+    ask_ok h v e f = by_step _ _ _ (order_passed k _ h ∙ ap (λ t. ask_closed s t) (sym f))
 
   -- issuing
   module _ (k : ℕ) where
@@ -125,14 +129,14 @@ module _ (b : Making) (R : Rules b.meaning) (s : State) where
   module _ (n k : ℕ) (q T : ℤ) where
     module _ (out : question_out n b.bench_number s.out ≡ true) where
       module _ (order : Ok tt ≡ order_outcome b.K s.held k) where
-        module _ (f : true ≡ le_z (pos 0) T) (c : Values) (i : c ≡ cell s.row k) where
-          on : (v : Trial Closed) → v ≡ close b.meaning c s.held k → mark_numbers b s n k q T ≡ mark_closed b s q T v
-          on v e = taken _ _ _ out ∙ order_passed k _ order ∙ taken _ _ _ (sym f) ∙ ap (mark_closed b s q T) (ap (λ c. close b.meaning c s.held k) (sym i) ∙ sym e)
+        module _ (f : true ≡ le_z (pos 0) T) where
+          on : (v : Trial Closed) → v ≡ close b.meaning (cell s.row k) s.held k → mark_numbers b s n k q T ≡ mark_closed b s q T v
+          on v e = taken _ _ _ out ∙ order_passed k _ order ∙ taken _ _ _ (sym f) ∙ ap (mark_closed b s q T) (sym e)
 
-          pub numbers_8 : (o : ℕ) → stopped o ≡ close b.meaning c s.held k → record { answer = refused 8 (o ∷ []); then = s } ≡ mark_numbers b s n k q T
+          pub numbers_8 : (o : ℕ) → stopped o ≡ close b.meaning (cell s.row k) s.held k → record { answer = refused 8 (o ∷ []); then = s } ≡ mark_numbers b s n k q T
           numbers_8 o e = sym (on (stopped o) e)
 
-          module _ (v : Closed) (e : done v ≡ close b.meaning c s.held k) where
+          module _ (v : Closed) (e : done v ≡ close b.meaning (cell s.row k) s.held k) where
             pub numbers_12 : (o : ℕ) → stopped o ≡ verdict b.meaning v q T → record { answer = refused 12 (o ∷ []); then = s } ≡ mark_numbers b s n k q T
             numbers_12 o j = sym (on (done v) e ∙ ap (mark_judged s) (sym j))
 
@@ -168,8 +172,3 @@ module _ (b : Making) (R : Rules b.meaning) (s : State) where
 
         pub add_ok : (row : List Values) → written row ≡ row_after b.meaning x s.row n → (i : ℕ) → i ≡ suc s.held → Called b s (record { row = row; held = i; out = s.out }) (add bytes) (added i)
         add_ok row e i g = by_step _ _ _ (through (written row) e ∙ ap (λ i. record { answer = added i; then = record { row = row; held = i; out = s.out } }) (sym g))
-
--- making
-pub stands_new : {P : Type 0} (st : Setting P) (row : List (Cell P)) (bench long : ℕ) → length row ≡ long → readings st row ≡ new_row st.meaning (long - 1) →
-    record { row = readings st row; held = 0; out = 0 } ≡ new_bench (record { meaning = st.meaning; bench_number = bench; K = length row - 1 })
-stands_new st row bench long e f = ap (λ r. record { row = r; held = 0; out = 0 }) (f ∙ ap (λ l. new_row st.meaning (l - 1)) (sym e))

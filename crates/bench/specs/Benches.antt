@@ -1,27 +1,23 @@
 -- A bench as the definitions see it, and what its calls promise.
-use Rattle.std.specs.Prelude.{◌≡◌, ℕ, suc, ◌-◌, ◌<◌, ◌≤◌, Bool, true, false, List, map, length, take, drop, slice_index_or}
+use Rattle.std.specs.Prelude.{◌≡◌, ℕ, suc, ◌-◌, ◌<◌, Bool, true, false, List, map, length, take, drop, slice_index_or, Result}
 use Rattle.arithmetic.specs.Setting.{Setting}
 use Rattle.coefficients.specs.Row.{new_row}
 use Rattle.coefficients.specs.Calls.{Making, State, Call, Answer, step}
 use Rattle.coefficients.specs.Law.{CallLaw}
 use Rattle.row.specs.Reading.{readings, plain_cell, Canonical}
 use Rattle.row.specs.declared.cell.Cell.{Cell}
-use Rattle.bench.specs.declared.Bench.{Bench}
+use Rattle.closing.specs.declared.verdict.Verdict.{Verdict}
+use Rattle.bench.specs.Asking.{marking_step}
+use Rattle.bench.specs.declared.refusal.Refusal.{Refusal}
+use Rattle.bench.specs.declared.bench.Bench.{Bench}
 
 -- what the bench was made with: the row has K + 1 cells
-abbrev pub making_of : {A N P : Type 0} → Setting P → Bench A N P → Making
+abbrev pub making_of : {A N P : Type 0} {g : _} → Setting P → Bench A N P g → Making
 making_of st b = record { meaning = st.meaning; bench_number = b.number; K = length b.row.now - 1 }
 
 -- how it stands: its plain cells as they read through the arithmetic's setting, and its counts
-abbrev pub state_of : {A N P : Type 0} → Setting P → Bench A N P → State
+abbrev pub state_of : {A N P : Type 0} {g : _} → Setting P → Bench A N P g → State
 state_of st b = record { row = readings st b.row.now; held = b.held; out = b.out }
-
--- the standing condition of a bench, which the making gives and every call keeps
-pub record Standing {A N P : Type 0} (b : Bench A N P) : Type 0 where
-  pub some_cells : 2 ≤ length b.row.now
-  pub few_cells : length b.row.now ≤ 65
-  pub few_held : b.held ≤ 64
-  pub few_out : b.out ≤ 32
 
 -- a call was answered as defined, the state after it is the one defined, and the law holds at this call
 pub record Called (b : Making) (s s' : State) (call : Call) (answer : Answer) : Type 0 where
@@ -30,15 +26,20 @@ pub record Called (b : Making) (s s' : State) (call : Call) (answer : Answer) : 
   pub law : CallLaw b s call answer
 
 -- the same of a bench before and after a call
-abbrev pub AnswersCall : {A N P : Type 0} → Setting P → Bench A N P → Bench A N P → Call → Answer → Type 0
+abbrev pub AnswersCall : {A N P : Type 0} {g : _} → Setting P → Bench A N P g → Bench A N P g → Call → Answer → Type 0
 AnswersCall st b b' call answer = Called (making_of st b) (state_of st b) (state_of st b') call answer
 
--- what every call keeps: what the bench was made with, the length of its row, and its standing condition
-pub record Keeps {A N P : Type 0} (st : Setting P) (b b' : Bench A N P) : Type 0 where
+-- a claim was judged as the defined marking judges it: the answer is the marking's, and the state after the marking is that in which
+-- one question less is out where a verdict is given
+abbrev pub JudgesCall : {A N P : Type 0} {g : _} → Setting P → Bench A N P g → Call → Result Verdict Refusal → Type 0
+JudgesCall st b call r = Called (making_of st b) (state_of st b) (marking_step (state_of st b) r).then call (marking_step (state_of st b) r).answer
+
+-- what every call keeps: what the bench was made with, and the lent row with its length
+pub record Keeps {A N P : Type 0} {g : _} (st : Setting P) (b b' : Bench A N P g) : Type 0 where
   pub making : making_of st b' ≡ making_of st b
   pub number : b'.number ≡ b.number
   pub long : length b'.row.now ≡ length b.row.now
-  pub standing : Standing b'
+  pub lender : b'.row.ghost_name ≡ b.row.ghost_name
 
 -- the plain cells after an addition to the orders 1 to n: all as they were if it is refused; cell 0 and those past n as they were; and
 -- those that it writes kept as the arithmetic writes what they read as

@@ -1,19 +1,27 @@
 -- What closing and judging answer, by the values of their numbers.
-use Rattle.std.specs.Prelude.{ℕ, ℤ, Ok, Err, Result}
+use Rattle.std.specs.Prelude.{ℤ, Ok, Err, Result}
 use Rattle.arithmetic.specs.Meaning.{Meaning, Number}
 use Rattle.coefficients.specs.Row.{Trial, done, stopped}
 use Rattle.coefficients.specs.Closing.{Closed, Verdict as Defined, right, wrong, left_open}
+use Rattle.closing.specs.declared.coefficient.Coefficient.{Coefficient}
+use Rattle.closing.specs.declared.coefficient.ClosingOperation.{ClosingOperation}
+use Rattle.closing.specs.declared.verdict.JudgingOperation.{JudgingOperation}
 use Rattle.closing.specs.declared.verdict.Verdict.{Verdict}
 use Rattle.closing.specs.declared.verdict.Verdict.TheVariants.{Right, Wrong, Open}
+use Rattle.closing.specs.Operations.{closing_number, judging_number}
+
+-- the values of a coefficient's two numbers
+abbrev pub closed_values : {N : Type 0} → (N → ℤ) → Coefficient N → Closed
+closed_values value c = record { value = value c.value; bound = value c.bound }
 
 -- a value with its bound, or the operation refused
-abbrev pub closing : {N : Type 0} → (N → ℤ) → Result (N × N) ℕ → Trial Closed
-closing value (Ok p) = done (record { value = value p.0; bound = value p.1 })
-closing value (Err o) = stopped o
+abbrev pub closing : {N : Type 0} → (N → ℤ) → Result (Coefficient N) ClosingOperation → Trial Closed
+closing value (Ok c) = done (closed_values value c)
+closing value (Err o) = stopped (closing_number o)
 
 -- the value and the bound are numbers
-abbrev pub GivesNumbers : {N E : Type 0} → Meaning → (N → ℤ) → Result (N × N) E → Type 0
-GivesNumbers m value (Ok p) = Number m (value p.0) × Number m (value p.1)
+abbrev pub GivesNumbers : {N E : Type 0} → Meaning → (N → ℤ) → Result (Coefficient N) E → Type 0
+GivesNumbers m value (Ok c) = Number m (value c.value) × Number m (value c.bound)
 GivesNumbers m value (Err e) = Unit {0}
 
 abbrev pub told_verdict : Verdict → Defined
@@ -22,6 +30,6 @@ told_verdict Wrong = wrong
 told_verdict Open = left_open
 
 -- a verdict, or the operation refused
-abbrev pub judging : Result Verdict ℕ → Trial Defined
+abbrev pub judging : Result Verdict JudgingOperation → Trial Defined
 judging (Ok v) = done (told_verdict v)
-judging (Err o) = stopped o
+judging (Err o) = stopped (judging_number o)

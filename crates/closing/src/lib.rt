@@ -1,162 +1,123 @@
 // Closing an order of a row to its value and error bound, and the verdict on a claim. Generic over the arithmetic.
 #![tactic(auto)]
 
-ghost use Rattle.std.specs.Prelude.{◌≡◌, ◌≤◌, int_lt};
+ghost use Rattle.std.specs.Prelude.{◌≡◌, ◌≤◌};
 ghost use Rattle.arithmetic.specs.Meaning.{Number as IsNumber};
 ghost use Rattle.coefficients.specs.Exact.{signed};
 ghost use Rattle.coefficients.specs.Closing.{closed, close as close_of, verdict as verdict_of};
 ghost use Rattle.row.specs.Reading.{reading, values, AreNumbers};
-ghost use Rattle.closing.specs.Closings.{closing, judging, GivesNumbers};
+ghost use Rattle.closing.specs.Closings.{closed_values, closing, judging, GivesNumbers};
 
 use arithmetic::Arithmetic;
-use row::cell::{Cell, Numbers};
+use coefficient::{ClosingOperation, Coefficient};
+use row::cell::Cell;
 use row::read;
-use verdict::Verdict;
+use verdict::{JudgingOperation, Verdict};
 
+pub mod coefficient;
 pub mod verdict;
 
 // v for even k, its negative for odd k.
+#[tactic(auto, using(crate::proofs::Signs::signed_even, crate::proofs::Signs::signed_odd))]
 fn with_sign<A: Arithmetic>(arith: &A, v: A::Number, k: u8) -> A::Number
-    requires number { IsNumber (A.Arithmetic.setting arith.now).meaning (A.Arithmetic.value v) }
-    ensures answer { A.Arithmetic.value result ≡ signed k (A.Arithmetic.value v) }
-    ensures number { IsNumber (A.Arithmetic.setting arith.now).meaning (A.Arithmetic.value result) }
+    requires number { IsNumber (A.setting arith.now).meaning (A.value v) }
+    ensures answer { A.value result ≡ signed k (A.value v) }
+    ensures number { IsNumber (A.setting arith.now).meaning (A.value result) }
 {
     if k % 2 == 1 { arith.negative(v) } else { v }
 }
 
 // The six operations for an order k, where n zeros are held: the value and the bound, or the operation that left its range.
+#[tactic(auto, unfolding(coefficients::specs::Closing::closed))]
 fn close_numbers<A: Arithmetic>(
     arith: &mut A,
-    cell: Numbers<A::Number>,
+    cell: Cell<A::Number>,
     n: u8,
     k: u8,
-) -> Result<(A::Number, A::Number), u8>
-    requires numbers { AreNumbers (A.Arithmetic.setting arith.old).meaning A.Arithmetic.value cell }
+) -> Result<Coefficient<A::Number>, ClosingOperation>
+    requires numbers { AreNumbers (A.setting arith.old).meaning A.value cell }
     requires few { n ≤ 64 }
-    ensures answer { closing A.Arithmetic.value result ≡ closed (A.Arithmetic.setting arith.old).meaning (values A.Arithmetic.value cell) n k }
-    ensures number { GivesNumbers (A.Arithmetic.setting arith.old).meaning A.Arithmetic.value result }
-    ensures same { A.Arithmetic.setting arith.new ≡ A.Arithmetic.setting arith.old }
+    ensures answer { closing A.value result ≡ closed (A.setting arith.old).meaning (values A.value cell) n k }
+    ensures number { GivesNumbers (A.setting arith.old).meaning A.value result }
+    ensures same { A.setting arith.new ≡ A.setting arith.old }
 {
-    let Some((v, c)) = arith.split_sum(cell.sum, cell.correction) else {
-        return Err(1);
-    };
+    let (v, c) = arith
+        .split_sum(cell.sum, cell.correction)
+        .ok_or(ClosingOperation::ValueSplit)?;
     let m = 2 * n.saturating_sub(1);
-    let Some(gamma) = arith.lift(arith.grain(m), m) else {
-        return Err(2);
-    };
-    let Some(e) = arith.product(gamma, cell.errors) else {
-        return Err(3);
-    };
-    let Some(alpha) = arith.lift(e, 3 * n) else {
-        return Err(4);
-    };
-    let Some(s) = arith.sum(arith.size(c), alpha) else {
-        return Err(5);
-    };
-    let Some(bound) = arith.lift(s, 2) else {
-        return Err(6);
-    };
-    Ok((with_sign(arith, v, k), bound))
-}
-
-// Closes the order k from the numbers of its cell. Order 0 is 1 with the bound 0.
-fn close_order<A: Arithmetic>(
-    arith: &mut A,
-    cell: Numbers<A::Number>,
-    n: u8,
-    k: u8,
-) -> Result<(A::Number, A::Number), u8>
-    requires numbers { AreNumbers (A.Arithmetic.setting arith.old).meaning A.Arithmetic.value cell }
-    requires few { n ≤ 64 }
-    ensures answer { closing A.Arithmetic.value result ≡ close_of (A.Arithmetic.setting arith.old).meaning (values A.Arithmetic.value cell) n k }
-    ensures number { GivesNumbers (A.Arithmetic.setting arith.old).meaning A.Arithmetic.value result }
-    ensures same { A.Arithmetic.setting arith.new ≡ A.Arithmetic.setting arith.old }
-{
-    if k == 0 {
-        return Ok((arith.one(), arith.zero()));
-    }
-    close_numbers(arith, cell, n, k)
+    let gamma = arith
+        .lift(arith.grain(m), m)
+        .ok_or(ClosingOperation::Gamma)?;
+    let e = arith
+        .product(gamma, cell.errors)
+        .ok_or(ClosingOperation::GammaProduct)?;
+    let alpha = arith
+        .lift(e, 3 * n)
+        .ok_or(ClosingOperation::LiftedProduct)?;
+    let s = arith
+        .sum(arith.size(c), alpha)
+        .ok_or(ClosingOperation::BoundSum)?;
+    let bound = arith.lift(s, 2).ok_or(ClosingOperation::Bound)?;
+    let value = with_sign(arith, v, k);
+    Ok(Coefficient { value, bound })
 }
 
 // Closes the order k, whose cell is given, where n zeros are held: the value and the bound, or the operation that left its range.
+// Order 0 is 1 with the bound 0.
+#[tactic(auto, using(crate::proofs::Signs::close_above))]
 pub fn close<A: Arithmetic>(
     arith: &mut A,
     cell: Cell<A::Plain>,
     n: u8,
     k: u8,
-) -> Result<(A::Number, A::Number), u8>
+) -> Result<Coefficient<A::Number>, ClosingOperation>
     requires few { n ≤ 64 }
-    ensures answer { closing A.Arithmetic.value result ≡ close_of (A.Arithmetic.setting arith.old).meaning (reading (A.Arithmetic.setting arith.old) cell) n k }
-    ensures number { GivesNumbers (A.Arithmetic.setting arith.old).meaning A.Arithmetic.value result }
-    ensures same { A.Arithmetic.setting arith.new ≡ A.Arithmetic.setting arith.old }
+    ensures answer { closing A.value result ≡ close_of (A.setting arith.old).meaning (reading (A.setting arith.old) cell) n k }
+    ensures number { GivesNumbers (A.setting arith.old).meaning A.value result }
+    ensures same { A.setting arith.new ≡ A.setting arith.old }
 {
+    if k == 0 {
+        return Ok(Coefficient {
+            value: arith.one(),
+            bound: arith.zero(),
+        });
+    }
     let numbers = read(arith, cell);
-    close_order(arith, numbers, n, k)
+    close_numbers(arith, numbers, n, k)
 }
 
-// Whether a is below b.
-fn is_below<A: Arithmetic>(arith: &A, a: A::Number, b: A::Number) -> bool
-    requires left { IsNumber (A.Arithmetic.setting arith.now).meaning (A.Arithmetic.value a) }
-    requires right { IsNumber (A.Arithmetic.setting arith.now).meaning (A.Arithmetic.value b) }
-    ensures { result ≡ int_lt (A.Arithmetic.value a) (A.Arithmetic.value b) }
-{
-    !arith.at_most(b, a)
-}
-
-// The five operations of a verdict, and then the verdict; or the operation that left its range.
-fn judge_value<A: Arithmetic>(
+// The verdict on a claim within a tolerance, from a value and its bound; or the operation that left its range. All five operations
+// come before the verdict.
+#[tactic(auto, using(crate::proofs::Signs::below_not), unfolding(coefficients::specs::Closing::verdict))]
+pub fn judge<A: Arithmetic>(
     arith: &mut A,
-    value: A::Number,
-    bound: A::Number,
+    coefficient: Coefficient<A::Number>,
     claim: A::Number,
     tolerance: A::Number,
-) -> Result<Verdict, u8>
-    requires value { IsNumber (A.Arithmetic.setting arith.old).meaning (A.Arithmetic.value value) }
-    requires bound { IsNumber (A.Arithmetic.setting arith.old).meaning (A.Arithmetic.value bound) }
-    requires claim { IsNumber (A.Arithmetic.setting arith.old).meaning (A.Arithmetic.value claim) }
-    requires tolerance { IsNumber (A.Arithmetic.setting arith.old).meaning (A.Arithmetic.value tolerance) }
-    ensures answer { judging result ≡ verdict_of (A.Arithmetic.setting arith.old).meaning (record { value = A.Arithmetic.value value; bound = A.Arithmetic.value bound }) (A.Arithmetic.value claim) (A.Arithmetic.value tolerance) }
-    ensures same { A.Arithmetic.setting arith.new ≡ A.Arithmetic.setting arith.old }
+) -> Result<Verdict, JudgingOperation>
+    requires value { IsNumber (A.setting arith.old).meaning (A.value coefficient.value) }
+    requires bound { IsNumber (A.setting arith.old).meaning (A.value coefficient.bound) }
+    requires claim { IsNumber (A.setting arith.old).meaning (A.value claim) }
+    requires tolerance { IsNumber (A.setting arith.old).meaning (A.value tolerance) }
+    ensures answer { judging result ≡ verdict_of (A.setting arith.old).meaning (closed_values A.value coefficient) (A.value claim) (A.value tolerance) }
+    ensures same { A.setting arith.new ≡ A.setting arith.old }
 {
-    let Some(difference) = arith.sum(claim, arith.negative(value)) else {
-        return Err(1);
-    };
+    let Coefficient { value, bound } = coefficient;
+    let difference = arith
+        .sum(claim, arith.negative(value))
+        .ok_or(JudgingOperation::Difference)?;
     let d = arith.size(difference);
-    let Some(a) = arith.sum(d, bound) else {
-        return Err(2);
-    };
-    let Some(near) = arith.lift(a, 3) else {
-        return Err(3);
-    };
-    let Some(b) = arith.sum(tolerance, bound) else {
-        return Err(4);
-    };
-    let Some(far) = arith.lift(b, 3) else {
-        return Err(5);
-    };
+    let a = arith.sum(d, bound).ok_or(JudgingOperation::NearSum)?;
+    let near = arith.lift(a, 3).ok_or(JudgingOperation::Near)?;
+    let b = arith
+        .sum(tolerance, bound)
+        .ok_or(JudgingOperation::FarSum)?;
+    let far = arith.lift(b, 3).ok_or(JudgingOperation::Far)?;
     if arith.at_most(near, tolerance) {
         return Ok(Verdict::Right);
     }
-    if is_below(arith, far, d) {
-        return Ok(Verdict::Wrong);
+    if arith.at_most(d, far) {
+        return Ok(Verdict::Open);
     }
-    Ok(Verdict::Open)
-}
-
-// The verdict on a claim within a tolerance, from a value and its bound; or the operation that left its range.
-pub fn judge<A: Arithmetic>(
-    arith: &mut A,
-    coefficient: (A::Number, A::Number),
-    claim: A::Number,
-    tolerance: A::Number,
-) -> Result<Verdict, u8>
-    requires value { IsNumber (A.Arithmetic.setting arith.old).meaning (A.Arithmetic.value coefficient.0) }
-    requires bound { IsNumber (A.Arithmetic.setting arith.old).meaning (A.Arithmetic.value coefficient.1) }
-    requires claim { IsNumber (A.Arithmetic.setting arith.old).meaning (A.Arithmetic.value claim) }
-    requires tolerance { IsNumber (A.Arithmetic.setting arith.old).meaning (A.Arithmetic.value tolerance) }
-    ensures answer { judging result ≡ verdict_of (A.Arithmetic.setting arith.old).meaning (record { value = A.Arithmetic.value coefficient.0; bound = A.Arithmetic.value coefficient.1 }) (A.Arithmetic.value claim) (A.Arithmetic.value tolerance) }
-    ensures same { A.Arithmetic.setting arith.new ≡ A.Arithmetic.setting arith.old }
-{
-    let (value, bound) = coefficient;
-    judge_value(arith, value, bound, claim, tolerance)
+    Ok(Verdict::Wrong)
 }

@@ -1,5 +1,11 @@
-// The verdict on a claim.
-#[derive(Clone, Copy)]
+// The verdict on a claim, and the operations that come before it.
+ghost use Rattle.std.specs.Prelude.{◌≡◌, Some};
+ghost use Rattle.closing.specs.Operations.{judging_number};
+ghost use Rattle.closing.specs.Words.{verdict_word};
+
+use std::fmt;
+
+#[derive(Clone, Copy, PartialEq, Eq, Debug)]
 pub enum Verdict {
     // within the tolerance of the exact coefficient
     Right,
@@ -7,4 +13,47 @@ pub enum Verdict {
     Wrong,
     // not decided
     Open,
+}
+
+impl fmt::Display for Verdict {
+    ghost output = { λ v. Some (verdict_word v) };
+
+    fn fmt<W: fmt::Write>(&self, f: &mut fmt::Formatter<W>) -> fmt::Result {
+        let word = match self {
+            Verdict::Right => "right",
+            Verdict::Wrong => "wrong",
+            Verdict::Open => "open",
+        };
+        write!(f, "{word}")
+    }
+}
+
+// The five operations of judging, for a claim on a value with the bound b, and the tolerance T.
+#[derive(Clone, Copy, PartialEq, Eq, Debug)]
+pub enum JudgingOperation {
+    // the claim less the value, whose size is d
+    Difference,
+    // d + b
+    NearSum,
+    // near: that sum lifted by 3
+    Near,
+    // T + b
+    FarSum,
+    // far: that sum lifted by 3
+    Far,
+}
+
+impl JudgingOperation {
+    // The number of an operation, from 1 to 5.
+    pub fn number(self) -> u8
+        ensures { result ≡ judging_number self }
+    {
+        match self {
+            JudgingOperation::Difference => 1,
+            JudgingOperation::NearSum => 2,
+            JudgingOperation::Near => 3,
+            JudgingOperation::FarSum => 4,
+            JudgingOperation::Far => 5,
+        }
+    }
 }

@@ -1,4 +1,6 @@
+pub mod Cells
 pub mod Orders
-pub mod Passes
-pub mod Rows
+pub mod Trying
+pub mod Writing
+pub mod Additions
 pub mod Renewal

@@ -1,2 +1,3 @@
+pub mod Operations
 pub mod Reading
 pub mod Passing

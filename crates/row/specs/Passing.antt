@@ -1,39 +1,31 @@
 -- What the functions of a row answer, and what they leave in its plain cells.
-use Rattle.std.specs.Prelude.{◌≡◌, ℕ, suc, ◌-◌, ◌<◌, Bool, true, false, List, ◌∷◌, map, length, take, drop, ℤ, is_ok, Ok, Err, Result, slice_index_or}
+use Rattle.std.specs.Prelude.{◌≡◌, ℕ, suc, ◌-◌, ◌<◌, true, false, List, map, length, take, drop, ℤ, is_ok, Ok, Err, Result, slice_index_or}
 use Rattle.arithmetic.specs.Setting.{Setting}
 use Rattle.coefficients.specs.Row.{Cell as Values, Trial, done, stopped, Update, written, refused_at, row_after, new_row}
 use Rattle.row.specs.declared.cell.Cell.{Cell}
+use Rattle.row.specs.declared.cell.Operation.{Operation}
 use Rattle.row.specs.declared.cell.OutOfRange.{OutOfRange}
+use Rattle.row.specs.Operations.{operation_number}
 use Rattle.row.specs.Reading.{reading, readings, plain_cell, Canonical}
 
 -- a new cell, or the operation refused
-abbrev pub tried : {P : Type 0} → Setting P → Result (Cell P) ℕ → Trial Values
+abbrev pub tried : {P : Type 0} → Setting P → Result (Cell P) Operation → Trial Values
 tried st (Ok c) = done (reading st c)
-tried st (Err o) = stopped o
+tried st (Err o) = stopped (operation_number o)
 
 -- a new cell is kept as the arithmetic writes it
-abbrev pub WritesPlain : {P : Type 0} → Setting P → Result (Cell P) ℕ → Type 0
+abbrev pub WritesPlain : {P E : Type 0} → Setting P → Result (Cell P) E → Type 0
 WritesPlain st (Ok c) = Canonical st c
 WritesPlain st (Err o) = Unit {0}
-
--- whether an addition was refused, with the order and the operation
-abbrev pub outcome : Update → Result (Unit {0}) OutOfRange
-outcome (written row) = Ok tt
-outcome (refused_at j o) = Err (record { order = j; operation = o })
-
--- one pass over the cells that follow the cell y: writing leaves the updated row, its cells as the arithmetic writes them; trying
--- leaves every cell; the cells past n stay in either case
-pub record Passed {P : Type 0} (st : Setting P) (x : ℤ) (y : Cell P) (n : ℕ) (writing : Bool) (old new : List (Cell P)) : Type 0 where
-  pub wrote : writing ≡ true → written (readings st (y ∷ new)) ≡ row_after st.meaning x (readings st (y ∷ old)) n
-  pub plain : writing ≡ true → (i : ℕ) → i < n → (d : Cell P) → Canonical st (slice_index_or new i d)
-  pub left : writing ≡ false → new ≡ old
-  pub beyond : drop n new ≡ drop n old
-  pub long : length new ≡ length old
 
 -- an answer together with the row, as an update of the definitions
 abbrev pub update : Result (Unit {0}) OutOfRange → List Values → Update
 update (Ok u) row = written row
-update (Err e) row = refused_at e.order e.operation
+update (Err e) row = refused_at e.order (operation_number e.operation)
+
+-- a trial of an addition answers whether it is refused, and at which order and operation
+abbrev pub Tells : Result (Unit {0}) OutOfRange → Update → Type 0
+Tells r w = (row : List Values) × (update r row ≡ w)
 
 -- an addition to the orders 1 to n of a row: as defined, the cells written kept as the arithmetic writes them; refused, every plain
 -- cell stays; in any case cell 0 and the cells past n stay

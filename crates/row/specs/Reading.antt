@@ -4,10 +4,20 @@ use Rattle.arithmetic.specs.Meaning.{Meaning, Number}
 use Rattle.arithmetic.specs.Setting.{Setting}
 use Rattle.coefficients.specs.Row.{Cell as Values}
 use Rattle.row.specs.declared.cell.Cell.{Cell}
-use Rattle.row.specs.declared.cell.Numbers.{Numbers}
 
+-- the values of the three parts of a cell
+abbrev pub values : {T : Type 0} → (T → ℤ) → Cell T → Values
+values value c = record { S = value c.sum; C = value c.correction; E = value c.errors }
+
+-- all three are numbers of the arithmetic
+pub record AreNumbers {N : Type 0} (m : Meaning) (value : N → ℤ) (c : Cell N) : Type 0 where
+  pub sum : Number m (value c.sum)
+  pub correction : Number m (value c.correction)
+  pub errors : Number m (value c.errors)
+
+-- what a plain cell reads as
 abbrev pub reading : {P : Type 0} → Setting P → Cell P → Values
-reading st c = record { S = st.reads c.sum; C = st.reads c.correction; E = st.reads c.errors }
+reading st c = values st.reads c
 
 abbrev pub readings : {P : Type 0} → Setting P → List (Cell P) → List Values
 readings st row = map (reading st) row
@@ -19,13 +29,3 @@ plain_cell st v = record { sum = st.plain v.S; correction = st.plain v.C; errors
 -- a cell is kept as the arithmetic writes what it reads as
 abbrev pub Canonical : {P : Type 0} → Setting P → Cell P → Type 0
 Canonical st c = c ≡ plain_cell st (reading st c)
-
--- the values of three numbers
-abbrev pub values : {N : Type 0} → (N → ℤ) → Numbers N → Values
-values value t = record { S = value t.sum; C = value t.correction; E = value t.errors }
-
--- all three are numbers of the arithmetic
-pub record AreNumbers {N : Type 0} (m : Meaning) (value : N → ℤ) (t : Numbers N) : Type 0 where
-  pub sum : Number m (value t.sum)
-  pub correction : Number m (value t.correction)
-  pub errors : Number m (value t.errors)

@@ -1,70 +1,63 @@
 // The row of a bench: reading a cell, adding one zero, and making the row new. Generic over the arithmetic.
 #![tactic(auto)]
 
-ghost use Rattle.std.specs.Prelude.{◌≡◌, ◌-◌, ◌<◌, ◌≤◌, min, true, ◌∷◌, length, replicate, pos, Ok, slice_index_or};
+ghost use Rattle.std.specs.Prelude.{◌≡◌, ◌-◌, ◌<◌, min, length, replicate, Ok};
 ghost use Rattle.arithmetic.specs.Meaning.{Number as IsNumber};
 ghost use Rattle.coefficients.specs.Row.{new_cell, row_after};
 ghost use Rattle.row.specs.Reading.{reading, readings, values, AreNumbers};
-ghost use Rattle.row.specs.Passing.{tried, WritesPlain, outcome, Passed, Added, Renewed};
+ghost use Rattle.row.specs.Passing.{tried, WritesPlain, Tells, Added, Renewed};
 
 use arithmetic::Arithmetic;
-use cell::{Cell, Numbers, OutOfRange};
+use cell::{Cell, Operation, OutOfRange};
 
 pub mod cell;
 
 // The numbers of a cell.
-pub fn read<A: Arithmetic>(arith: &A, cell: Cell<A::Plain>) -> Numbers<A::Number>
-    ensures answer { values A.Arithmetic.value result ≡ reading (A.Arithmetic.setting arith.now) cell }
-    ensures number { AreNumbers (A.Arithmetic.setting arith.now).meaning A.Arithmetic.value result }
+pub fn read<A: Arithmetic>(arith: &A, cell: Cell<A::Plain>) -> Cell<A::Number>
+    ensures answer { values A.value result ≡ reading (A.setting arith.now) cell }
+    ensures number { AreNumbers (A.setting arith.now).meaning A.value result }
 {
-    Numbers {
+    Cell {
         sum: arith.read(cell.sum),
         correction: arith.read(cell.correction),
         errors: arith.read(cell.errors),
     }
 }
 
-// Cell j after the zero x, from the numbers of the old cells j and j − 1, or the number of the operation that left its range.
+// Cell j after the zero x, from the numbers of the old cells j and j − 1, or the operation that left its range.
+#[tactic(auto, using(crate::proofs::Cells::canonical_by), unfolding(coefficients::specs::Row::new_cell))]
 fn update<A: Arithmetic>(
     arith: &mut A,
     x: A::Number,
-    old: Numbers<A::Number>,
-    before: Numbers<A::Number>,
-) -> Result<Cell<A::Plain>, u8>
-    requires number { IsNumber (A.Arithmetic.setting arith.old).meaning (A.Arithmetic.value x) }
-    requires old { AreNumbers (A.Arithmetic.setting arith.old).meaning A.Arithmetic.value old }
-    requires before { AreNumbers (A.Arithmetic.setting arith.old).meaning A.Arithmetic.value before }
-    ensures answer { tried (A.Arithmetic.setting arith.old) result ≡ new_cell (A.Arithmetic.setting arith.old).meaning (A.Arithmetic.value x) (values A.Arithmetic.value old) (values A.Arithmetic.value before) }
-    ensures plain { WritesPlain (A.Arithmetic.setting arith.old) result }
-    ensures same { A.Arithmetic.setting arith.new ≡ A.Arithmetic.setting arith.old }
+    old: Cell<A::Number>,
+    before: Cell<A::Number>,
+) -> Result<Cell<A::Plain>, Operation>
+    requires number { IsNumber (A.setting arith.old).meaning (A.value x) }
+    requires old { AreNumbers (A.setting arith.old).meaning A.value old }
+    requires before { AreNumbers (A.setting arith.old).meaning A.value before }
+    ensures answer { tried (A.setting arith.old) result ≡ new_cell (A.setting arith.old).meaning (A.value x) (values A.value old) (values A.value before) }
+    ensures plain { WritesPlain (A.setting arith.old) result }
+    ensures same { A.setting arith.new ≡ A.setting arith.old }
 {
-    let Some((p, beta)) = arith.split_product(x, before.sum) else {
-        return Err(1);
-    };
-    let Some((s, sigma)) = arith.split_sum(old.sum, p) else {
-        return Err(2);
-    };
-    let Some(w) = arith.sum(beta, sigma) else {
-        return Err(3);
-    };
-    let Some(g) = arith.sum(old.correction, w) else {
-        return Err(4);
-    };
-    let Some(h) = arith.product(x, before.correction) else {
-        return Err(5);
-    };
-    let Some(c) = arith.sum(g, h) else {
-        return Err(6);
-    };
-    let Some(f) = arith.sum(old.errors, arith.size(w)) else {
-        return Err(7);
-    };
-    let Some(t) = arith.product(arith.size(x), before.errors) else {
-        return Err(8);
-    };
-    let Some(e) = arith.sum(f, t) else {
-        return Err(9);
-    };
+    let (p, beta) = arith
+        .split_product(x, before.sum)
+        .ok_or(Operation::ProductSplit)?;
+    let (s, sigma) = arith.split_sum(old.sum, p).ok_or(Operation::SumSplit)?;
+    let w = arith.sum(beta, sigma).ok_or(Operation::LocalError)?;
+    let g = arith
+        .sum(old.correction, w)
+        .ok_or(Operation::CorrectionSum)?;
+    let h = arith
+        .product(x, before.correction)
+        .ok_or(Operation::CorrectionProduct)?;
+    let c = arith.sum(g, h).ok_or(Operation::Correction)?;
+    let f = arith
+        .sum(old.errors, arith.size(w))
+        .ok_or(Operation::ErrorsSum)?;
+    let t = arith
+        .product(arith.size(x), before.errors)
+        .ok_or(Operation::ErrorsProduct)?;
+    let e = arith.sum(f, t).ok_or(Operation::Errors)?;
     Ok(Cell {
         sum: arith.plain(s),
         correction: arith.plain(c),
@@ -72,127 +65,88 @@ fn update<A: Arithmetic>(
     })
 }
 
-// The cell of order k in the row that begins with y and goes on with `rest`.
-fn cell_at<P: Copy>(y: Cell<P>, rest: &[Cell<P>], k: usize) -> Cell<P>
-    requires { k ≤ length rest.now }
-    ensures { result ≡ slice_index_or (y ∷ rest.now) k y }
-{
-    if k == 0 { y } else { rest[k - 1] }
-}
-
-// One pass over the orders n down to 1, which stand in `rest`, after the cell y of order 0: it tries them, or writes them where
-// they were tried before. The numbers of cell j − 1 are carried over to the next order, so each cell is read once.
-fn pass<A: Arithmetic>(
+// Tries the orders n down to 1 of an addition, and writes none. The numbers of cell j are carried over to the next order, so each
+// cell is read once.
+fn try_orders<A: Arithmetic>(
     arith: &mut A,
     x: A::Number,
-    y: Cell<A::Plain>,
-    rest: &mut [Cell<A::Plain>],
+    row: &[Cell<A::Plain>],
     n: usize,
-    writing: bool,
 ) -> Result<(), OutOfRange>
-    requires number { IsNumber (A.Arithmetic.setting arith.old).meaning (A.Arithmetic.value x) }
-    requires within { n ≤ length rest.old }
-    requires tried { writing ≡ true → outcome (row_after (A.Arithmetic.setting arith.old).meaning (A.Arithmetic.value x) (readings (A.Arithmetic.setting arith.old) (y ∷ rest.old)) n) ≡ Ok tt }
-    ensures answer { result ≡ outcome (row_after (A.Arithmetic.setting arith.old).meaning (A.Arithmetic.value x) (readings (A.Arithmetic.setting arith.old) (y ∷ rest.old)) n) }
-    ensures cells { Passed (A.Arithmetic.setting arith.old) (A.Arithmetic.value x) y n writing rest.old rest.new }
-    ensures same { A.Arithmetic.setting arith.new ≡ A.Arithmetic.setting arith.old }
+    requires number { IsNumber (A.setting arith.old).meaning (A.value x) }
+    requires within { n < length row.now }
+    ensures answer { Tells result (row_after (A.setting arith.old).meaning (A.value x) (readings (A.setting arith.old) row.now) n) }
+    ensures same { A.setting arith.new ≡ A.setting arith.old }
 {
-    let mut k = n;
-    let first = cell_at(y, rest, k);
-    let mut old = read(arith, first);
-    while k > 0 {
-        k -= 1;
-        let c = cell_at(y, rest, k);
-        let before = read(arith, c);
-        match update(arith, x, old, before) {
-            Ok(new) => {
-                if writing {
-                    rest[k] = new;
-                }
-            }
-            Err(operation) => return Err(OutOfRange {
-                order: k + 1,
-                operation,
-            }),
-        }
+    let mut old = read(arith, row[n]);
+    for j in (0..n).rev() {
+        let before = read(arith, row[j]);
+        update(arith, x, old, before).map_err(|operation| OutOfRange {
+            order: j + 1,
+            operation,
+        })?;
         old = before;
     }
     Ok(())
 }
 
-// Adds the zero x to the orders 1 to n of the row. The row is tried whole before a cell is written.
-fn add_tried<A: Arithmetic>(
-    arith: &mut A,
-    x: A::Number,
-    row: &mut [Cell<A::Plain>],
-    n: usize,
-) -> Result<(), OutOfRange>
-    requires number { IsNumber (A.Arithmetic.setting arith.old).meaning (A.Arithmetic.value x) }
+// Writes the orders n down to 1 of an addition that was tried and not refused.
+fn write_orders<A: Arithmetic>(arith: &mut A, x: A::Number, row: &mut [Cell<A::Plain>], n: usize)
+    requires number { IsNumber (A.setting arith.old).meaning (A.value x) }
     requires within { n < length row.old }
-    ensures cells { Added (A.Arithmetic.setting arith.old) (A.Arithmetic.value x) n result row.old row.new }
-    ensures same { A.Arithmetic.setting arith.new ≡ A.Arithmetic.setting arith.old }
+    requires tried { Tells (Ok tt) (row_after (A.setting arith.old).meaning (A.value x) (readings (A.setting arith.old) row.old) n) }
+    ensures cells { Added (A.setting arith.old) (A.value x) n (Ok tt) row.old row.new }
+    ensures same { A.setting arith.new ≡ A.setting arith.old }
 {
-    let first = row[0];
-    let trial = pass(arith, x, first, &mut row[1..], n, false);
-    if trial.is_err() {
-        return trial;
-    }
-    pass(arith, x, first, &mut row[1..], n, true)
-}
-
-// Writes one cell into every place.
-fn fill<P: Copy>(row: &mut [Cell<P>], c: Cell<P>)
-    ensures { row.new ≡ replicate (length row.old) c }
-{
-    for k in 0..row.len() {
-        row[k] = c;
+    let mut old = read(arith, row[n]);
+    for j in (0..n).rev() {
+        let before = read(arith, row[j]);
+        row[j + 1] = update(arith, x, old, before).unwrap();
+        old = before;
     }
 }
 
-// Adds the zero x as zero number `number`: to the orders 1 to min(number, K), where the row has K + 1 cells.
+// Adds the zero x as zero number `number`: to the orders 1 to min(number, K), where the row has K + 1 cells. The row is tried whole
+// before a cell is written.
+#[tactic(auto, using(crate::proofs::Additions::refused))]
 pub fn add<A: Arithmetic>(
     arith: &mut A,
     x: A::Number,
     row: &mut [Cell<A::Plain>],
     number: usize,
 ) -> Result<(), OutOfRange>
-    requires number { IsNumber (A.Arithmetic.setting arith.old).meaning (A.Arithmetic.value x) }
+    requires number { IsNumber (A.setting arith.old).meaning (A.value x) }
     requires some { 0 < length row.old }
-    ensures cells { Added (A.Arithmetic.setting arith.old) (A.Arithmetic.value x) (min number (length row.old - 1)) result row.old row.new }
-    ensures same { A.Arithmetic.setting arith.new ≡ A.Arithmetic.setting arith.old }
+    ensures cells { Added (A.setting arith.old) (A.value x) (min number (length row.old - 1)) result row.old row.new }
+    ensures same { A.setting arith.new ≡ A.setting arith.old }
 {
     let highest = row.len() - 1;
-    add_tried(arith, x, row, number.min(highest))
+    let n = number.min(highest);
+    try_orders(arith, x, row, n)?;
+    write_orders(arith, x, row, n);
+    Ok(())
 }
 
-// Fills a row with the plain value of 0, and sets its first cell to the plain value of 1.
-fn start<A: Arithmetic>(arith: &A, row: &mut [Cell<A::Plain>], one: A::Plain, zero: A::Plain)
-    requires some { 0 < length row.old }
-    requires one { (one ≡ (A.Arithmetic.setting arith.now).plain (pos (A.Arithmetic.setting arith.now).meaning.Q)) × ((A.Arithmetic.setting arith.now).reads one ≡ pos (A.Arithmetic.setting arith.now).meaning.Q) }
-    requires zero { (zero ≡ (A.Arithmetic.setting arith.now).plain (pos 0)) × ((A.Arithmetic.setting arith.now).reads zero ≡ pos 0) }
-    ensures { Renewed (A.Arithmetic.setting arith.now) row.old row.new }
+// Writes one value into every place. The slice's own `fill` asks for a `clone` that cannot fail, which `Copy` does not say.
+fn fill<T: Copy>(row: &mut [T], value: T)
+    ensures { row.new ≡ replicate (length row.old) value }
 {
-    fill(
-        row,
-        Cell {
-            sum: zero,
-            correction: zero,
-            errors: zero,
-        },
-    );
-    row[0] = Cell {
-        sum: one,
-        correction: zero,
-        errors: zero,
-    };
+    row.fill_with(|| value);
 }
 
 // Makes a row new, whatever it held.
+#[tactic(auto, using(crate::proofs::Renewal::renewed_cells, crate::proofs::Renewal::renewed_reads, crate::proofs::Renewal::first_set_long))]
 pub fn renew<A: Arithmetic>(arith: &A, row: &mut [Cell<A::Plain>])
     requires some { 0 < length row.old }
-    ensures { Renewed (A.Arithmetic.setting arith.now) row.old row.new }
+    ensures { Renewed (A.setting arith.now) row.old row.new }
 {
     let one = arith.plain(arith.one());
     let zero = arith.plain(arith.zero());
-    start(arith, row, one, zero);
+    let zeros = Cell {
+        sum: zero,
+        correction: zero,
+        errors: zero,
+    };
+    fill(row, zeros);
+    row[0] = Cell { sum: one, ..zeros };
 }
