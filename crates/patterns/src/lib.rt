@@ -1,7 +1,10 @@
 // A pattern: the eight bytes that a number is written as, shown and read as sixteen upper-case hexadecimal digits.
 #![tactic(auto)]
 
-ghost use Rattle.std.specs.Prelude.{◌≡◌, Some};
+ghost use lib.Ieee.{binary64};
+ghost use Rattle.std.specs.Prelude.{◌≡◌, Some, to_bits};
+ghost use Rattle.std.specs.Float.{NotNan};
+ghost use Rattle.std.specs.Int.{w64, to_be_bytes};
 ghost use Rattle.patterns.specs.Patterns.{digit_value, byte_value, Reads, pattern_text};
 
 use std::fmt;
@@ -15,6 +18,18 @@ pub struct Pattern {
 // A word that is not sixteen upper-case hexadecimal digits.
 #[derive(Clone, Copy, Debug, PartialEq, Eq)]
 pub struct NotAPattern;
+
+impl Pattern {
+    // The pattern of a number of binary64: its bits, the highest byte first.
+    pub fn of_binary64(x: f64) -> Pattern
+        requires { NotNan x }
+        ensures { result.bytes ≡ to_be_bytes w64 (to_bits binary64 x) }
+    {
+        Pattern {
+            bytes: x.to_be_bytes(),
+        }
+    }
+}
 
 impl fmt::Display for Pattern {
     ghost output = { λ p. Some (pattern_text p) };

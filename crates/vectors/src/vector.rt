@@ -12,22 +12,17 @@ pub enum Vector {
     AtMost(Pattern, Pattern),
 }
 
-// The pattern that a word tells, where there is one.
-fn pattern(word: Option<&str>) -> Option<Pattern> {
-    word?.parse().ok()
-}
-
 // The vector that the words of a line tell; none where they have another form.
 pub fn parse(question: &str) -> Option<Vector> {
     let mut words = question.split(' ');
     let operation = words.next()?;
-    let first = pattern(words.next())?;
+    let first: Pattern = words.next()?.parse().ok()?;
     let vector = match operation {
-        "sum" => Vector::Sum(first, pattern(words.next())?),
-        "product" => Vector::Product(first, pattern(words.next())?),
+        "sum" => Vector::Sum(first, words.next()?.parse().ok()?),
+        "product" => Vector::Product(first, words.next()?.parse().ok()?),
         "lift" => Vector::Lift(first, read_count(words.next()?)?),
         "admit" => Vector::Admit(first),
-        "at-most" => Vector::AtMost(first, pattern(words.next())?),
+        "at-most" => Vector::AtMost(first, words.next()?.parse().ok()?),
         _ => return None,
     };
     words.next().is_none().then_some(vector)
