@@ -41,13 +41,18 @@ abbrev pub Admits : {N : Type 0} → Meaning → (N → ℤ) → Result N Cause 
 Admits m value (Ok n) = Number m (value n)
 Admits m value (Err c) = Unit {0}
 
--- ---- what an operation ensures: its answer is the definition's and a number, and the arithmetic is set as before
-pub record Rounds {S N P : Type 0} (setting : S → Setting P) (value : N → ℤ) (before after : S) (r : Option N) (defined : Maybe ℤ) : Type 0 where
+-- ---- what an operation ensures: what it leaves of the arithmetic, and that its answer is the definition's and a number
+-- the arithmetic is set as before, and its limits are lawful
+pub record Stays {S P : Type 0} (setting : S → Setting P) (lawful : S → Type 0) (before after : S) : Type 0 where
+  pub same : setting after ≡ setting before
+  pub law : lawful after
+
+pub record Rounds {S N P : Type 0} (setting : S → Setting P) (lawful : S → Type 0) (value : N → ℤ) (before after : S) (r : Option N) (defined : Maybe ℤ) : Type 0 where
   pub answer : valued value r ≡ defined
   pub number : Gives (setting before).meaning value r
-  pub same : setting after ≡ setting before
+  pub arith : Stays setting lawful before after
 
-pub record Splits {S N P : Type 0} (setting : S → Setting P) (value : N → ℤ) (before after : S) (r : Option (N × N)) (defined : Maybe Split) : Type 0 where
+pub record Splits {S N P : Type 0} (setting : S → Setting P) (lawful : S → Type 0) (value : N → ℤ) (before after : S) (r : Option (N × N)) (defined : Maybe Split) : Type 0 where
   pub answer : split_valued value r ≡ defined
   pub number : GivesBoth (setting before).meaning value r
-  pub same : setting after ≡ setting before
+  pub arith : Stays setting lawful before after

@@ -21,13 +21,16 @@ pub trait Arithmetic: Sized {
     ghost setting: { Self → Setting Self.Plain };
     // the multiple of 1/Q that a number stands for
     ghost value: { Self.Number → ℤ };
+    // the arithmetic's limits are lawful
+    ghost lawful: { Self → Type 0 };
 
     // The rounded sum.
     #[tactic(auto, using(crate::proofs::Mains::sum_refused, crate::proofs::Mains::sum_given))]
     fn sum(&mut self, a: Self::Number, b: Self::Number) -> Option<Self::Number>
+        requires law { lawful self.old }
         requires left { IsNumber (setting self.old).meaning (value a) }
         requires right { IsNumber (setting self.old).meaning (value b) }
-        ensures { Rounds setting value self.old self.new result (rounded_sum (setting self.old).meaning (value a) (value b)) }
+        ensures { Rounds setting lawful value self.old self.new result (rounded_sum (setting self.old).meaning (value a) (value b)) }
     {
         let (main, _) = self.split_sum(a, b)?;
         Some(main)
@@ -36,9 +39,10 @@ pub trait Arithmetic: Sized {
     // The rounded product.
     #[tactic(auto, using(crate::proofs::Mains::product_refused, crate::proofs::Mains::product_given))]
     fn product(&mut self, a: Self::Number, b: Self::Number) -> Option<Self::Number>
+        requires law { lawful self.old }
         requires left { IsNumber (setting self.old).meaning (value a) }
         requires right { IsNumber (setting self.old).meaning (value b) }
-        ensures { Rounds setting value self.old self.new result (rounded_product (setting self.old).meaning (value a) (value b)) }
+        ensures { Rounds setting lawful value self.old self.new result (rounded_product (setting self.old).meaning (value a) (value b)) }
     {
         let (main, _) = self.split_product(a, b)?;
         Some(main)
@@ -50,9 +54,10 @@ pub trait Arithmetic: Sized {
         a: Self::Number,
         b: Self::Number,
     ) -> Option<(Self::Number, Self::Number)>
+        requires law { lawful self.old }
         requires left { IsNumber (setting self.old).meaning (value a) }
         requires right { IsNumber (setting self.old).meaning (value b) }
-        ensures { Splits setting value self.old self.new result (sum_split (setting self.old).meaning (value a) (value b)) };
+        ensures { Splits setting lawful value self.old self.new result (sum_split (setting self.old).meaning (value a) (value b)) };
 
     // The rounded product and its error part.
     fn split_product(
@@ -60,71 +65,84 @@ pub trait Arithmetic: Sized {
         a: Self::Number,
         b: Self::Number,
     ) -> Option<(Self::Number, Self::Number)>
+        requires law { lawful self.old }
         requires left { IsNumber (setting self.old).meaning (value a) }
         requires right { IsNumber (setting self.old).meaning (value b) }
-        ensures { Splits setting value self.old self.new result (product_split (setting self.old).meaning (value a) (value b)) };
+        ensures { Splits setting lawful value self.old self.new result (product_split (setting self.old).meaning (value a) (value b)) };
 
     // a lifted by k: a / (1 − k u), rounded.
     fn lift(&mut self, a: Self::Number, k: u8) -> Option<Self::Number>
+        requires law { lawful self.old }
         requires number { IsNumber (setting self.old).meaning (value a) }
         requires few { k ≤ 192 }
-        ensures { Rounds setting value self.old self.new result (lifted (setting self.old).meaning (value a) k) };
+        ensures { Rounds setting lawful value self.old self.new result (lifted (setting self.old).meaning (value a) k) };
 
     // The grain k u.
     fn grain(&self, k: u8) -> Self::Number
+        requires law { lawful self.now }
         requires few { k ≤ 192 }
         ensures answer { value result ≡ grain_of (setting self.now).meaning k }
         ensures number { IsNumber (setting self.now).meaning (value result) };
 
     fn size(&self, a: Self::Number) -> Self::Number
+        requires law { lawful self.now }
         requires number { IsNumber (setting self.now).meaning (value a) }
         ensures answer { value result ≡ size_of (value a) }
         ensures number { IsNumber (setting self.now).meaning (value result) };
 
     fn negative(&self, a: Self::Number) -> Self::Number
+        requires law { lawful self.now }
         requires number { IsNumber (setting self.now).meaning (value a) }
         ensures answer { value result ≡ neg_ℤ (value a) }
         ensures number { IsNumber (setting self.now).meaning (value result) };
 
     // Whether a is at most b.
     fn at_most(&self, a: Self::Number, b: Self::Number) -> bool
+        requires law { lawful self.now }
         requires left { IsNumber (setting self.now).meaning (value a) }
         requires right { IsNumber (setting self.now).meaning (value b) }
         ensures { result ≡ int_le (value a) (value b) };
 
     // Whether a is zero, or from low to high in size.
     fn is_in_limits(&self, a: Self::Number) -> bool
+        requires law { lawful self.now }
         requires number { IsNumber (setting self.now).meaning (value a) }
         ensures { result ≡ in_limits (setting self.now).meaning (value a) };
 
     fn zero(&self) -> Self::Number
+        requires law { lawful self.now }
         ensures answer { value result ≡ pos 0 }
         ensures number { IsNumber (setting self.now).meaning (value result) };
 
     fn one(&self) -> Self::Number
+        requires law { lawful self.now }
         ensures answer { value result ≡ pos (setting self.now).meaning.Q }
         ensures number { IsNumber (setting self.now).meaning (value result) };
 
     // The number that a plain value stands for; 0 where it stands for none.
     fn read(&self, p: Self::Plain) -> Self::Number
+        requires law { lawful self.now }
         ensures answer { value result ≡ (setting self.now).reads p }
         ensures number { IsNumber (setting self.now).meaning (value result) };
 
     // The plain value of a number, which reads as that number.
     fn plain(&self, a: Self::Number) -> Self::Plain
+        requires law { lawful self.now }
         requires number { IsNumber (setting self.now).meaning (value a) }
         ensures answer { result ≡ (setting self.now).plain (value a) }
         ensures back { (setting self.now).reads result ≡ value a };
 
     // The number that eight bytes are admitted as, or the cause.
     fn admit(&self, bytes: &[u8; 8]) -> Result<Self::Number, Cause>
+        requires law { lawful self.now }
         ensures answer { admission value result ≡ (setting self.now).meaning.admit bytes.now }
         ensures number { Admits (setting self.now).meaning value result };
 
     // The eight bytes that a number is written as.
     fn pattern(&self, a: Self::Number) -> [u8; 8]
+        requires law { lawful self.now }
         requires number { IsNumber (setting self.now).meaning (value a) }
         ensures { result ≡ (setting self.now).meaning.pattern (value a) };
 
-    ghost rules: { (s : Self) → Rules (setting s).meaning };
+    ghost rules: { (s : Self) → lawful s → Rules (setting s).meaning };
 }

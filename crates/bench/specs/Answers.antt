@@ -26,7 +26,7 @@ told_cleared (Ok u) = cleared
 told_cleared (Err r) = told_refusal r
 
 abbrev pub told_asked : {N : Type 0} → (N → ℤ) → Result (N × N) Refusal → Answer
-told_asked value (Ok p) = asked (value p.0) (value p.1)
+told_asked value (Ok c) = asked (value c.0) (value c.1)
 told_asked value (Err r) = told_refusal r
 
 abbrev pub told_issued : Result Question Refusal → Answer

@@ -1,5 +1,6 @@
 // Asking an order.
 ghost use Rattle.std.specs.Prelude.{◌≡◌, ◌-◌, ◌<◌, length, slice_index_or};
+ghost use Rattle.arithmetic.specs.Setting.{Stays};
 ghost use Rattle.coefficients.specs.Row.{cell as cell_of};
 ghost use Rattle.coefficients.specs.Closing.{close as close_of};
 ghost use Rattle.coefficients.specs.Calls.{ask as ask_call};
@@ -13,6 +14,7 @@ use crate::bench::Bench;
 use crate::refusal::Refusal;
 use arithmetic::Arithmetic;
 use closing::close;
+use closing::operations::ClosingOperation;
 use row::cell::Cell;
 
 // The cell of order k.
@@ -39,11 +41,16 @@ impl<'r, A: Arithmetic> Bench<'r, A> {
 
     // The value and the error bound of an order that is in the row, or the operation that left its range.
     #[tactic(auto, using(crate::proofs::Steps::closed_in_row))]
-    pub(crate) fn close_order(&self, arith: &mut A, k: u8) -> Result<(A::Number, A::Number), u8>
-        requires { k < length self.now.row.now }
-        ensures answer { closing A.Arithmetic.value result ≡ close_of (A.Arithmetic.setting arith.old).meaning (cell_of (readings (A.Arithmetic.setting arith.old) self.now.row.now) k) self.now.held k }
-        ensures numbers { GivesNumbers (A.Arithmetic.setting arith.old).meaning A.Arithmetic.value result }
-        ensures same { A.Arithmetic.setting arith.new ≡ A.Arithmetic.setting arith.old }
+    pub(crate) fn close_order(
+        &self,
+        arith: &mut A,
+        k: u8,
+    ) -> Result<(A::Number, A::Number), ClosingOperation>
+        requires law { A.lawful arith.old }
+        requires within { k < length self.now.row.now }
+        ensures answer { closing A.value result ≡ close_of (A.setting arith.old).meaning (cell_of (readings (A.setting arith.old) self.now.row.now) k) self.now.held k }
+        ensures numbers { GivesNumbers (A.setting arith.old).meaning A.value result }
+        ensures arith { Stays A.setting A.lawful arith.old arith.new }
     {
         let cell = cell_at(self.row, k as usize);
         close(arith, cell, self.held, k)
@@ -51,14 +58,12 @@ impl<'r, A: Arithmetic> Bench<'r, A> {
 
     // The value and the error bound of the coefficient of order k. Refusals: 6, 7, 8.
     pub fn ask(&self, arith: &mut A, k: u8) -> Result<(A::Number, A::Number), Refusal>
-        ensures called { AnswersCall (A.Arithmetic.setting arith.old) self.now self.now (ask_call k) (told_asked A.Arithmetic.value result) }
-        ensures numbers { GivesNumbers (A.Arithmetic.setting arith.old).meaning A.Arithmetic.value result }
-        ensures same { A.Arithmetic.setting arith.new ≡ A.Arithmetic.setting arith.old }
+        requires law { A.lawful arith.old }
+        ensures called { AnswersCall (A.setting arith.old) self.now self.now (ask_call k) (told_asked A.value result) }
+        ensures numbers { GivesNumbers (A.setting arith.old).meaning A.value result }
+        ensures arith { Stays A.setting A.lawful arith.old arith.new }
     {
         self.check_order(k)?;
-        match self.close_order(arith, k) {
-            Ok(coefficient) => Ok(coefficient),
-            Err(operation) => Err(Refusal::ClosingOutOfRange { operation }),
-        }
+        Ok(self.close_order(arith, k)?)
     }
 }

@@ -1,6 +1,7 @@
 // Issuing questions, marking claims by them, and withdrawing them.
 ghost use Rattle.std.specs.Prelude.{◌≡◌, ◌-◌, ◌<◌, ◌≤◌, IfOk};
 ghost use Rattle.arithmetic.specs.Meaning.{Number as IsNumber};
+ghost use Rattle.arithmetic.specs.Setting.{Stays};
 ghost use Rattle.coefficients.specs.Calls.{step, mark_numbers, issue as issue_call, mark as mark_call, withdraw as withdraw_call};
 ghost use Rattle.bench.specs.Answers.{told_issued, told_marked, told_withdrawn, GivesBack, IssuedFor, WithdrawnIf, OneMore, OneLess};
 ghost use Rattle.bench.specs.Asking.{question_out, marking_step, JudgedOut};
@@ -23,9 +24,10 @@ impl<'r, A: Arithmetic> Bench<'r, A> {
 
     // Issues a question of order k. Refusals: 6, 7, 9.
     pub fn issue(&mut self, arith: &A, k: u8) -> Result<Question, Refusal>
-        ensures called { AnswersCall (A.Arithmetic.setting arith.now) self.old self.new (issue_call k) (told_issued result) }
+        requires law { A.lawful arith.now }
+        ensures called { AnswersCall (A.setting arith.now) self.old self.new (issue_call k) (told_issued result) }
         ensures cells { self.new.row.now ≡ self.old.row.now }
-        ensures keeps { Keeps (A.Arithmetic.setting arith.now) self.old self.new }
+        ensures keeps { Keeps (A.setting arith.now) self.old self.new }
         ensures question { IssuedFor self.old.number k result }
         ensures lasting { IfOk result (λ q. q.order ≤ 64) }
         ensures counts { OneMore result self.old.out self.new.out }
@@ -50,12 +52,13 @@ impl<'r, A: Arithmetic> Bench<'r, A> {
         claim: &[u8; 8],
         tolerance: &[u8; 8],
     ) -> Result<Verdict, GivenBack>
-        ensures called { AnswersCall (A.Arithmetic.setting arith.old) self.old self.new (mark_call question.bench question.order claim.now tolerance.now) (told_marked result) }
+        requires law { A.lawful arith.old }
+        ensures called { AnswersCall (A.setting arith.old) self.old self.new (mark_call question.bench question.order claim.now tolerance.now) (told_marked result) }
         ensures back { GivesBack question result }
         ensures cells { self.new.row.now ≡ self.old.row.now }
-        ensures keeps { Keeps (A.Arithmetic.setting arith.old) self.old self.new }
+        ensures keeps { Keeps (A.setting arith.old) self.old self.new }
         ensures counts { OneLess result self.old.out self.new.out }
-        ensures same { A.Arithmetic.setting arith.new ≡ A.Arithmetic.setting arith.old }
+        ensures arith { Stays A.setting A.lawful arith.old arith.new }
     {
         match self.judge_claim(arith, &question, claim, tolerance) {
             Ok(verdict) => {
@@ -75,9 +78,10 @@ impl<'r, A: Arithmetic> Bench<'r, A> {
         claim: &[u8; 8],
         tolerance: &[u8; 8],
     ) -> Result<Verdict, Refusal>
-        ensures called { JudgesCall (A.Arithmetic.setting arith.old) self.now (mark_call question.now.bench question.now.order claim.now tolerance.now) result }
+        requires law { A.lawful arith.old }
+        ensures called { JudgesCall (A.setting arith.old) self.now (mark_call question.now.bench question.now.order claim.now tolerance.now) result }
         ensures out { JudgedOut result self.now.out }
-        ensures same { A.Arithmetic.setting arith.new ≡ A.Arithmetic.setting arith.old }
+        ensures arith { Stays A.setting A.lawful arith.old arith.new }
     {
         let claimed = arith.admit(claim)?;
         let allowed = arith.admit(tolerance)?;
@@ -92,11 +96,12 @@ impl<'r, A: Arithmetic> Bench<'r, A> {
         claim: A::Number,
         tolerance: A::Number,
     ) -> Result<Verdict, Refusal>
-        requires claim { IsNumber (A.Arithmetic.setting arith.old).meaning (A.Arithmetic.value claim) }
-        requires tolerance { IsNumber (A.Arithmetic.setting arith.old).meaning (A.Arithmetic.value tolerance) }
-        ensures step { marking_step (state_of (A.Arithmetic.setting arith.old) self.now) result ≡ mark_numbers (making_of (A.Arithmetic.setting arith.old) self.now) (state_of (A.Arithmetic.setting arith.old) self.now) question.now.bench question.now.order (A.Arithmetic.value claim) (A.Arithmetic.value tolerance) }
+        requires law { A.lawful arith.old }
+        requires claim { IsNumber (A.setting arith.old).meaning (A.value claim) }
+        requires tolerance { IsNumber (A.setting arith.old).meaning (A.value tolerance) }
+        ensures step { marking_step (state_of (A.setting arith.old) self.now) result ≡ mark_numbers (making_of (A.setting arith.old) self.now) (state_of (A.setting arith.old) self.now) question.now.bench question.now.order (A.value claim) (A.value tolerance) }
         ensures out { JudgedOut result self.now.out }
-        ensures same { A.Arithmetic.setting arith.new ≡ A.Arithmetic.setting arith.old }
+        ensures arith { Stays A.setting A.lawful arith.old arith.new }
     {
         if !self.is_out(question) {
             return Err(Refusal::NotOut);
@@ -107,22 +112,17 @@ impl<'r, A: Arithmetic> Bench<'r, A> {
         if !natural {
             return Err(Refusal::ToleranceBelowZero);
         }
-        let coefficient = match self.close_order(arith, k) {
-            Ok(coefficient) => coefficient,
-            Err(operation) => return Err(Refusal::ClosingOutOfRange { operation }),
-        };
-        match judge(arith, coefficient, claim, tolerance) {
-            Ok(verdict) => Ok(verdict),
-            Err(operation) => Err(Refusal::JudgingOutOfRange { operation }),
-        }
+        let coefficient = self.close_order(arith, k)?;
+        Ok(judge(arith, coefficient, claim, tolerance)?)
     }
 
     // Withdraws a question. Refusal: 10, which gives the question back.
     pub fn withdraw(&mut self, arith: &A, question: Question) -> Result<(), GivenBack>
-        ensures called { AnswersCall (A.Arithmetic.setting arith.now) self.old self.new (withdraw_call question.bench question.order) (told_withdrawn result) }
+        requires law { A.lawful arith.now }
+        ensures called { AnswersCall (A.setting arith.now) self.old self.new (withdraw_call question.bench question.order) (told_withdrawn result) }
         ensures back { GivesBack question result }
         ensures cells { self.new.row.now ≡ self.old.row.now }
-        ensures keeps { Keeps (A.Arithmetic.setting arith.now) self.old self.new }
+        ensures keeps { Keeps (A.setting arith.now) self.old self.new }
         ensures spent { WithdrawnIf (question_out question.bench self.old.number self.old.out) result }
         ensures counts { OneLess result self.old.out self.new.out }
     {

@@ -1,9 +1,10 @@
 // Why a call is refused: the first of its questions that is answered no.
 ghost use Rattle.std.specs.Prelude.{◌≡◌};
 ghost use Rattle.bench.specs.Refusals.{refusal_number, refusal_details, told_details};
-ghost use Rattle.bench.specs.declared.refusal.Refusal.TheVariants.{AddingOutOfRange, NotAdmitted};
+ghost use Rattle.bench.specs.declared.refusal.Refusal.TheVariants.{AddingOutOfRange, ClosingOutOfRange, JudgingOutOfRange, NotAdmitted};
 
 use arithmetic::cause::Cause;
+use closing::operations::{ClosingOperation, JudgingOperation};
 use row::cell::OutOfRange;
 use std::fmt;
 
@@ -24,7 +25,7 @@ pub enum Refusal {
     // 7: the order is above the count of zeros held
     OrderAboveZeros,
     // 8: an operation of the closing leaves its range
-    ClosingOutOfRange { operation: u8 },
+    ClosingOutOfRange(ClosingOperation),
     // 9: 32 questions are out
     TooManyOut,
     // 10: the question has another bench number, or none is out
@@ -32,7 +33,7 @@ pub enum Refusal {
     // 11: the tolerance is below 0
     ToleranceBelowZero,
     // 12: an operation of the verdict leaves its range
-    JudgingOutOfRange { operation: u8 },
+    JudgingOutOfRange(JudgingOperation),
     // 17: eight bytes are no number
     NotAdmitted(Cause),
 }
@@ -53,10 +54,25 @@ impl From<OutOfRange> for Refusal {
     }
 }
 
-// The details of a refusal, in the order in which they are told.
-#[derive(Clone, Copy)]
+impl From<ClosingOperation> for Refusal {
+    ghost from_gives = { λ o r. r ≡ ClosingOutOfRange o };
+
+    fn from(operation: ClosingOperation) -> Refusal {
+        Refusal::ClosingOutOfRange(operation)
+    }
+}
+
+impl From<JudgingOperation> for Refusal {
+    ghost from_gives = { λ o r. r ≡ JudgingOutOfRange o };
+
+    fn from(operation: JudgingOperation) -> Refusal {
+        Refusal::JudgingOutOfRange(operation)
+    }
+}
+
+// The details of a refusal that has some: numbers, in the order in which they are told.
+#[derive(Clone, Copy, PartialEq, Eq, Debug)]
 pub enum Details {
-    Nothing,
     Operation(u8),
     OrderAndOperation(usize, u8),
     CauseNumber(u8),
@@ -75,26 +91,30 @@ impl Refusal {
             Refusal::AddingOutOfRange(_) => 5,
             Refusal::OrderAboveRow => 6,
             Refusal::OrderAboveZeros => 7,
-            Refusal::ClosingOutOfRange { operation: _ } => 8,
+            Refusal::ClosingOutOfRange(_) => 8,
             Refusal::TooManyOut => 9,
             Refusal::NotOut => 10,
             Refusal::ToleranceBelowZero => 11,
-            Refusal::JudgingOutOfRange { operation: _ } => 12,
+            Refusal::JudgingOutOfRange(_) => 12,
             Refusal::NotAdmitted(_) => 17,
         }
     }
 
-    // Its details.
-    pub fn details(self) -> Details
+    // Its details, if it has any.
+    pub fn details(self) -> Option<Details>
         ensures { told_details result ≡ refusal_details self }
     {
-        match self {
-            Refusal::AddingOutOfRange(at) => Details::OrderAndOperation(at.order, at.operation),
-            Refusal::ClosingOutOfRange { operation } => Details::Operation(operation),
-            Refusal::JudgingOutOfRange { operation } => Details::Operation(operation),
+        let details = match self {
+            Refusal::AddingOutOfRange(at) => Details::OrderAndOperation(
+                at.order,
+                at.operation.number(),
+            ),
+            Refusal::ClosingOutOfRange(operation) => Details::Operation(operation.number()),
+            Refusal::JudgingOutOfRange(operation) => Details::Operation(operation.number()),
             Refusal::NotAdmitted(cause) => Details::CauseNumber(cause.number()),
-            _ => Details::Nothing,
-        }
+            _ => return None,
+        };
+        Some(details)
     }
 }
 
@@ -104,10 +124,10 @@ impl fmt::Display for Refusal {
         let number = self.number();
         write!(f, "{number}")?;
         match self.details() {
-            Details::Nothing => Ok(()),
-            Details::Operation(operation) => write!(f, " {operation}"),
-            Details::OrderAndOperation(order, operation) => write!(f, " {order} {operation}"),
-            Details::CauseNumber(cause) => write!(f, " {cause}"),
+            None => Ok(()),
+            Some(Details::Operation(operation)) => write!(f, " {operation}"),
+            Some(Details::OrderAndOperation(order, operation)) => write!(f, " {order} {operation}"),
+            Some(Details::CauseNumber(cause)) => write!(f, " {cause}"),
         }
     }
 }

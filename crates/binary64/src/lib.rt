@@ -30,7 +30,9 @@ impl Arithmetic for Binary64 {
 
     ghost value = { units };
 
-    ghost rules = { λ s. TheRules.rules };
+    ghost lawful = { λ _. Unit {0} };
+
+    ghost rules = { λ s h. TheRules.rules };
 
     fn split_sum(&mut self, a: Double, b: Double) -> Option<(Double, Double)> {
         sums::split_sum(a, b)

@@ -3,25 +3,24 @@ use Rattle.std.specs.Prelude.{ℤ, Ok, Err, Result}
 use Rattle.arithmetic.specs.Meaning.{Meaning, Number}
 use Rattle.coefficients.specs.Row.{Trial, done, stopped}
 use Rattle.coefficients.specs.Closing.{Closed, Verdict as Defined, right, wrong, left_open}
-use Rattle.closing.specs.declared.coefficient.Coefficient.{Coefficient}
-use Rattle.closing.specs.declared.coefficient.ClosingOperation.{ClosingOperation}
-use Rattle.closing.specs.declared.verdict.JudgingOperation.{JudgingOperation}
+use Rattle.closing.specs.declared.operations.ClosingOperation.{ClosingOperation}
+use Rattle.closing.specs.declared.operations.JudgingOperation.{JudgingOperation}
 use Rattle.closing.specs.declared.verdict.Verdict.{Verdict}
 use Rattle.closing.specs.declared.verdict.Verdict.TheVariants.{Right, Wrong, Open}
 use Rattle.closing.specs.Operations.{closing_number, judging_number}
 
 -- the values of a coefficient's two numbers
-abbrev pub closed_values : {N : Type 0} → (N → ℤ) → Coefficient N → Closed
-closed_values value c = record { value = value c.value; bound = value c.bound }
+abbrev pub closed_values : {N : Type 0} → (N → ℤ) → N × N → Closed
+closed_values value c = record { value = value c.0; bound = value c.1 }
 
 -- a value with its bound, or the operation refused
-abbrev pub closing : {N : Type 0} → (N → ℤ) → Result (Coefficient N) ClosingOperation → Trial Closed
+abbrev pub closing : {N : Type 0} → (N → ℤ) → Result (N × N) ClosingOperation → Trial Closed
 closing value (Ok c) = done (closed_values value c)
 closing value (Err o) = stopped (closing_number o)
 
 -- the value and the bound are numbers
-abbrev pub GivesNumbers : {N E : Type 0} → Meaning → (N → ℤ) → Result (Coefficient N) E → Type 0
-GivesNumbers m value (Ok c) = Number m (value c.value) × Number m (value c.bound)
+abbrev pub GivesNumbers : {N E : Type 0} → Meaning → (N → ℤ) → Result (N × N) E → Type 0
+GivesNumbers m value (Ok c) = Number m (value c.0) × Number m (value c.1)
 GivesNumbers m value (Err e) = Unit {0}
 
 abbrev pub told_verdict : Verdict → Defined

@@ -3,23 +3,25 @@
 
 ghost use Rattle.std.specs.Prelude.{◌≡◌, ◌≤◌};
 ghost use Rattle.arithmetic.specs.Meaning.{Number as IsNumber};
+ghost use Rattle.arithmetic.specs.Setting.{Stays};
 ghost use Rattle.coefficients.specs.Exact.{signed};
 ghost use Rattle.coefficients.specs.Closing.{closed, close as close_of, verdict as verdict_of};
 ghost use Rattle.row.specs.Reading.{reading, values, AreNumbers};
 ghost use Rattle.closing.specs.Closings.{closed_values, closing, judging, GivesNumbers};
 
 use arithmetic::Arithmetic;
-use coefficient::{ClosingOperation, Coefficient};
+use operations::{ClosingOperation, JudgingOperation};
 use row::cell::Cell;
 use row::read;
-use verdict::{JudgingOperation, Verdict};
+use verdict::Verdict;
 
-pub mod coefficient;
+pub mod operations;
 pub mod verdict;
 
 // v for even k, its negative for odd k.
 #[tactic(auto, using(crate::proofs::Signs::signed_even, crate::proofs::Signs::signed_odd))]
 fn with_sign<A: Arithmetic>(arith: &A, v: A::Number, k: u8) -> A::Number
+    requires law { A.lawful arith.now }
     requires number { IsNumber (A.setting arith.now).meaning (A.value v) }
     ensures answer { A.value result ≡ signed k (A.value v) }
     ensures number { IsNumber (A.setting arith.now).meaning (A.value result) }
@@ -34,12 +36,13 @@ fn close_numbers<A: Arithmetic>(
     cell: Cell<A::Number>,
     n: u8,
     k: u8,
-) -> Result<Coefficient<A::Number>, ClosingOperation>
+) -> Result<(A::Number, A::Number), ClosingOperation>
+    requires law { A.lawful arith.old }
     requires numbers { AreNumbers (A.setting arith.old).meaning A.value cell }
     requires few { n ≤ 64 }
     ensures answer { closing A.value result ≡ closed (A.setting arith.old).meaning (values A.value cell) n k }
     ensures number { GivesNumbers (A.setting arith.old).meaning A.value result }
-    ensures same { A.setting arith.new ≡ A.setting arith.old }
+    ensures arith { Stays A.setting A.lawful arith.old arith.new }
 {
     let (v, c) = arith
         .split_sum(cell.sum, cell.correction)
@@ -51,36 +54,30 @@ fn close_numbers<A: Arithmetic>(
     let e = arith
         .product(gamma, cell.errors)
         .ok_or(ClosingOperation::GammaProduct)?;
-    let alpha = arith
-        .lift(e, 3 * n)
-        .ok_or(ClosingOperation::LiftedProduct)?;
+    let alpha = arith.lift(e, 3 * n).ok_or(ClosingOperation::LiftedProduct)?;
     let s = arith
         .sum(arith.size(c), alpha)
         .ok_or(ClosingOperation::BoundSum)?;
     let bound = arith.lift(s, 2).ok_or(ClosingOperation::Bound)?;
-    let value = with_sign(arith, v, k);
-    Ok(Coefficient { value, bound })
+    Ok((with_sign(arith, v, k), bound))
 }
 
 // Closes the order k, whose cell is given, where n zeros are held: the value and the bound, or the operation that left its range.
 // Order 0 is 1 with the bound 0.
-#[tactic(auto, using(crate::proofs::Signs::close_above))]
 pub fn close<A: Arithmetic>(
     arith: &mut A,
     cell: Cell<A::Plain>,
     n: u8,
     k: u8,
-) -> Result<Coefficient<A::Number>, ClosingOperation>
+) -> Result<(A::Number, A::Number), ClosingOperation>
+    requires law { A.lawful arith.old }
     requires few { n ≤ 64 }
     ensures answer { closing A.value result ≡ close_of (A.setting arith.old).meaning (reading (A.setting arith.old) cell) n k }
     ensures number { GivesNumbers (A.setting arith.old).meaning A.value result }
-    ensures same { A.setting arith.new ≡ A.setting arith.old }
+    ensures arith { Stays A.setting A.lawful arith.old arith.new }
 {
     if k == 0 {
-        return Ok(Coefficient {
-            value: arith.one(),
-            bound: arith.zero(),
-        });
+        return Ok((arith.one(), arith.zero()));
     }
     let numbers = read(arith, cell);
     close_numbers(arith, numbers, n, k)
@@ -88,30 +85,29 @@ pub fn close<A: Arithmetic>(
 
 // The verdict on a claim within a tolerance, from a value and its bound; or the operation that left its range. All five operations
 // come before the verdict.
-#[tactic(auto, using(crate::proofs::Signs::below_not), unfolding(coefficients::specs::Closing::verdict))]
+#[tactic(auto, unfolding(coefficients::specs::Closing::verdict))]
 pub fn judge<A: Arithmetic>(
     arith: &mut A,
-    coefficient: Coefficient<A::Number>,
+    coefficient: (A::Number, A::Number),
     claim: A::Number,
     tolerance: A::Number,
 ) -> Result<Verdict, JudgingOperation>
-    requires value { IsNumber (A.setting arith.old).meaning (A.value coefficient.value) }
-    requires bound { IsNumber (A.setting arith.old).meaning (A.value coefficient.bound) }
+    requires law { A.lawful arith.old }
+    requires value { IsNumber (A.setting arith.old).meaning (A.value coefficient.0) }
+    requires bound { IsNumber (A.setting arith.old).meaning (A.value coefficient.1) }
     requires claim { IsNumber (A.setting arith.old).meaning (A.value claim) }
     requires tolerance { IsNumber (A.setting arith.old).meaning (A.value tolerance) }
     ensures answer { judging result ≡ verdict_of (A.setting arith.old).meaning (closed_values A.value coefficient) (A.value claim) (A.value tolerance) }
-    ensures same { A.setting arith.new ≡ A.setting arith.old }
+    ensures arith { Stays A.setting A.lawful arith.old arith.new }
 {
-    let Coefficient { value, bound } = coefficient;
+    let (value, bound) = coefficient;
     let difference = arith
         .sum(claim, arith.negative(value))
         .ok_or(JudgingOperation::Difference)?;
     let d = arith.size(difference);
     let a = arith.sum(d, bound).ok_or(JudgingOperation::NearSum)?;
     let near = arith.lift(a, 3).ok_or(JudgingOperation::Near)?;
-    let b = arith
-        .sum(tolerance, bound)
-        .ok_or(JudgingOperation::FarSum)?;
+    let b = arith.sum(tolerance, bound).ok_or(JudgingOperation::FarSum)?;
     let far = arith.lift(b, 3).ok_or(JudgingOperation::Far)?;
     if arith.at_most(near, tolerance) {
         return Ok(Verdict::Right);

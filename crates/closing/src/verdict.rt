@@ -1,6 +1,5 @@
-// The verdict on a claim, and the operations that come before it.
-ghost use Rattle.std.specs.Prelude.{◌≡◌, Some};
-ghost use Rattle.closing.specs.Operations.{judging_number};
+// The verdict on a claim.
+ghost use Rattle.std.specs.Prelude.{Some};
 ghost use Rattle.closing.specs.Words.{verdict_word};
 
 use std::fmt;
@@ -25,35 +24,5 @@ impl fmt::Display for Verdict {
             Verdict::Open => "open",
         };
         write!(f, "{word}")
-    }
-}
-
-// The five operations of judging, for a claim on a value with the bound b, and the tolerance T.
-#[derive(Clone, Copy, PartialEq, Eq, Debug)]
-pub enum JudgingOperation {
-    // the claim less the value, whose size is d
-    Difference,
-    // d + b
-    NearSum,
-    // near: that sum lifted by 3
-    Near,
-    // T + b
-    FarSum,
-    // far: that sum lifted by 3
-    Far,
-}
-
-impl JudgingOperation {
-    // The number of an operation, from 1 to 5.
-    pub fn number(self) -> u8
-        ensures { result ≡ judging_number self }
-    {
-        match self {
-            JudgingOperation::Difference => 1,
-            JudgingOperation::NearSum => 2,
-            JudgingOperation::Near => 3,
-            JudgingOperation::FarSum => 4,
-            JudgingOperation::Far => 5,
-        }
     }
 }

@@ -1,7 +1,7 @@
-// Decimal as an arithmetic: the numbers of d digits at most 10^40 in size, with the operations of the crate `scientific`.
+// Decimal as an arithmetic: the numbers of so many digits, at most 10^40 in size, with the operations of the crate `scientific`.
 #![tactic(auto)]
 
-ghost use Rattle.std.specs.Prelude.{◌≡◌, ◌≤◌};
+ghost use Rattle.std.specs.Prelude.{◌≡◌};
 ghost use Rattle.scientific.specs.Patterns.{setting as setting_of};
 ghost use Rattle.scientific.specs.Numbers.{units};
 ghost use Rattle.scientific.proofs.TheRules;
@@ -9,20 +9,23 @@ ghost use Rattle.scientific.proofs.TheRules;
 use arithmetic::Arithmetic;
 use arithmetic::cause::Cause;
 use scientific::number::Scientific;
+use scientific::precision::Precision;
 use scientific::written::Written;
 use scientific::{bytes, exact, lifting, products, sums};
 
 #[derive(Clone, Copy)]
 pub struct Decimal {
-    digits: u8,
+    precision: Precision,
 }
 
 impl Decimal {
     // Decimal with eight digits.
     pub fn eight() -> Decimal
-        ensures { result.digits ≡ 8 }
+        ensures { result.precision.digits ≡ 8 }
     {
-        Decimal { digits: 8 }
+        Decimal {
+            precision: Precision::eight(),
+        }
     }
 }
 
@@ -31,36 +34,28 @@ impl Arithmetic for Decimal {
     // M and e
     type Plain = Written;
 
-    ghost setting = { λ s. setting_of s.digits };
+    ghost setting = { λ s. setting_of s.precision.digits };
 
     ghost value = { units };
 
-    ghost lawful = { λ s. (4 ≤ s.digits) × (s.digits ≤ 8) };
+    ghost lawful = { λ _. Unit {0} };
 
-    ghost rules = { λ s h. TheRules.rules s.digits h.0 h.1 };
-
-    fn sum(&mut self, a: Scientific, b: Scientific) -> Option<Scientific> {
-        sums::sum(a, b, self.digits)
-    }
-
-    fn product(&mut self, a: Scientific, b: Scientific) -> Option<Scientific> {
-        products::product(a, b, self.digits)
-    }
+    ghost rules = { λ s h. TheRules.rules s.precision };
 
     fn split_sum(&mut self, a: Scientific, b: Scientific) -> Option<(Scientific, Scientific)> {
-        sums::split_sum(a, b, self.digits)
+        sums::split_sum(a, b, self.precision)
     }
 
     fn split_product(&mut self, a: Scientific, b: Scientific) -> Option<(Scientific, Scientific)> {
-        products::split_product(a, b, self.digits)
+        products::split_product(a, b, self.precision)
     }
 
     fn lift(&mut self, a: Scientific, k: u8) -> Option<Scientific> {
-        lifting::lift(a, k, self.digits)
+        lifting::lift(a, k, self.precision)
     }
 
     fn grain(&self, k: u8) -> Scientific {
-        exact::grain(k, self.digits)
+        exact::grain(k, self.precision)
     }
 
     fn size(&self, a: Scientific) -> Scientific {
@@ -88,18 +83,18 @@ impl Arithmetic for Decimal {
     }
 
     fn read(&self, p: Written) -> Scientific {
-        bytes::read(p, self.digits)
+        bytes::read(p, self.precision)
     }
 
     fn plain(&self, a: Scientific) -> Written {
-        bytes::plain(a, self.digits)
+        bytes::plain(a, self.precision)
     }
 
     fn admit(&self, bytes: &[u8; 8]) -> Result<Scientific, Cause> {
-        bytes::admit(bytes, self.digits)
+        bytes::admit(bytes, self.precision)
     }
 
     fn pattern(&self, a: Scientific) -> [u8; 8] {
-        bytes::pattern(a, self.digits)
+        bytes::pattern(a, self.precision)
     }
 }

@@ -5,7 +5,7 @@ use lib.Seq.{set_comm}
 use Rattle.arithmetic.specs.Meaning.{Meaning}
 use Rattle.coefficients.specs.Row.{Cell as Values, cell, Trial, done, stopped, Update, written, refused_at, new_cell, row_after, put, put_tried}
 use Rattle.row.specs.declared.cell.OutOfRange.{OutOfRange}
-use Rattle.row.specs.Passing.{Tells}
+use Rattle.row.specs.Answers.{Tells}
 
 tells_put : (r : Result (Unit {0}) OutOfRange) (j : ℕ) (c : Values) (w : Update) → Tells r w → Tells r (put j c w)
 tells_put (Ok u) j c w t = (set t.0 j c, ap (put j c) t.1)

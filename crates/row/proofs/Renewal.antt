@@ -1,8 +1,8 @@
 -- A row filled with one cell of zeros, whose first sum is then set to 1, reads as the row of a new bench.
-use Rattle.std.proofs.Common.{◌≡◌, ℕ, zero, suc, ◌-◌, ◌<◌, List, [], ◌∷◌, map, length, set, replicate, pos, sym, refl, ap, ◌∙◌, subst, arith, length-set}
+use Rattle.std.proofs.Common.{◌≡◌, ℕ, zero, suc, ◌-◌, ◌<◌, List, [], ◌∷◌, map, length, set, replicate, pos, refl, ap, ◌∙◌, subst, arith, length-set}
 use Rattle.std.specs.List.{FoldsTo}
 use Rattle.arithmetic.specs.Setting.{Setting}
-use Rattle.coefficients.specs.Row.{no_cell, one_cell, new_row}
+use Rattle.coefficients.specs.Row.{no_cell, new_row}
 use Rattle.row.specs.declared.cell.Cell.{Cell}
 use Rattle.row.specs.Reading.{reading, readings, plain_cell}
 
@@ -32,16 +32,10 @@ module _ {P : Type 0} (st : Setting P) (row : List (Cell P)) (o z : P) (some : 0
   shape = ap (λ r. set r 0 (lone o z)) filled ∙ set_first (length row) (lone z z) (lone o z) some
 
   pub renewed_cells : o ≡ st.plain (pos st.meaning.Q) → z ≡ st.plain (pos 0) → set row 0 (lone o z) ≡ map (plain_cell st) (new_row st.meaning (length row - 1))
-  renewed_cells o_is z_is = shape
-      ∙ ap (λ v. lone v z ∷ replicate (length row - 1) (lone z z)) o_is
-      ∙ ap (λ v. lone (st.plain (pos st.meaning.Q)) v ∷ replicate (length row - 1) (lone v v)) z_is
-      ∙ ap (λ l. plain_cell st (one_cell st.meaning) ∷ l) (sym (map_replicate (plain_cell st) (length row - 1) no_cell))
+  renewed_cells o_is z_is = cc (shape, map_replicate (plain_cell st) (length row - 1) no_cell)
 
   pub renewed_reads : st.reads o ≡ pos st.meaning.Q → st.reads z ≡ pos 0 → readings st (set row 0 (lone o z)) ≡ new_row st.meaning (length row - 1)
-  renewed_reads o_reads z_reads = ap (readings st) shape
-      ∙ ap (λ l. reading st (lone o z) ∷ l) (map_replicate (reading st) (length row - 1) (lone z z))
-      ∙ ap (λ v. record { S = v; C = st.reads z; E = st.reads z } ∷ replicate (length row - 1) (reading st (lone z z))) o_reads
-      ∙ ap (λ v. record { S = pos st.meaning.Q; C = v; E = v } ∷ replicate (length row - 1) (record { S = v; C = v; E = v })) z_reads
+  renewed_reads o_reads z_reads = cc (ap (readings st) shape, map_replicate (reading st) (length row - 1) (lone z z))
 
 pub first_set_long : {X : Type 0} (row : List X) (x : X) → length (set row 0 x) ≡ length row
 first_set_long row x = length-set row 0 x

@@ -1,6 +1,6 @@
 -- The writing goes from order n down to 1, as the trial did. At order k the cells above k are written and those up to k are the old
 -- ones; writing the orders from k down onto the row as it stands gives the whole addition. `Writing` is what holds then.
-use Rattle.std.proofs.Common.{◌≡◌, ℕ, zero, suc, ◌+◌, ◌<◌, ◌≤◌, List, [], ◌∷◌, length, get_or, take, drop, set, ℤ, Ok, Err, Result, sym, refl, ap, ◌∙◌, subst, arith, length-set, get_or-set_other, get_or-take, get_or-set_same, drop-set-lt}
+use Rattle.std.proofs.Common.{◌≡◌, ℕ, zero, suc, ◌<◌, ◌≤◌, List, [], ◌∷◌, length, get_or, take, drop, set, ℤ, Ok, Err, Result, sym, refl, ap, ◌∙◌, subst, arith, length-set, get_or-set_other, get_or-take, get_or-set_same, drop-set-lt}
 use native.Mathlib.Decide.{ℕ_discrete}
 use lib.Seq.{map-set, take-set-le}
 use Rattle.std.specs.Result.{IsOk}
@@ -10,7 +10,7 @@ use Rattle.row.specs.declared.cell.Cell.{Cell}
 use Rattle.row.specs.declared.cell.Operation.{Operation}
 use Rattle.row.specs.Operations.{operation_number}
 use Rattle.row.specs.Reading.{reading, readings, Canonical}
-use Rattle.row.specs.Passing.{tried, Tells, Added}
+use Rattle.row.specs.Answers.{tried, Tells, Added}
 use Rattle.row.proofs.Cells.{reads_at}
 use Rattle.row.proofs.Orders.{onto, row_onto, onto_none, onto_done, onto_stopped}
 
@@ -59,8 +59,8 @@ module _ {P : Type 0} (st : Setting P) (x : ℤ) (n : ℕ) (L₀ L : List (Cell 
             let f : written t.0 ≡ refused_at (suc j) (operation_number o) = t.1 ∙ w.whole ∙ ap (onto st.meaning x (readings st L₀) (readings st L)) at ∙ onto_stopped st.meaning x (readings st L₀) (readings st L) j (operation_number o) e in
             absurd (cc f)
 
-    pub next : (new : Cell P) → u ≡ Ok new → Canonical st new → n < length L₀ → k ≤ n → Writing st x n L₀ (set L (j + 1) new) j
-    next new e p h h' = let s : j + 1 ≡ suc j = omega arith in rw s (record {
+    pub next : (new : Cell P) → u ≡ Ok new → Canonical st new → n < length L₀ → k ≤ n → Writing st x n L₀ (set L k new) j
+    next new e p h h' = rw at (record {
       whole = w.whole ∙ ap (onto st.meaning x (readings st L₀) (readings st L)) at ∙ onto_done st.meaning x (readings st L₀) (readings st L) j (reading st new) (ap (tried st) (sym e) ∙ step) ∙ ap (λ l. onto st.meaning x (readings st L₀) l j) (sym (map-set (reading st) L (suc j) new));
       plain = λ i a b d. at_least i a b d (ℕ_discrete i j);
       old = take-set-le (suc j) L (suc j) new (omega arith) ∙ one_less (suc j) L L₀ (rw at at w.old);

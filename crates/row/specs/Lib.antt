@@ -1,3 +1,3 @@
 pub mod Operations
 pub mod Reading
-pub mod Passing
+pub mod Answers

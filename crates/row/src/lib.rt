@@ -3,9 +3,10 @@
 
 ghost use Rattle.std.specs.Prelude.{◌≡◌, ◌-◌, ◌<◌, min, length, replicate, Ok};
 ghost use Rattle.arithmetic.specs.Meaning.{Number as IsNumber};
+ghost use Rattle.arithmetic.specs.Setting.{Stays};
 ghost use Rattle.coefficients.specs.Row.{new_cell, row_after};
 ghost use Rattle.row.specs.Reading.{reading, readings, values, AreNumbers};
-ghost use Rattle.row.specs.Passing.{tried, WritesPlain, Tells, Added, Renewed};
+ghost use Rattle.row.specs.Answers.{tried, WritesPlain, Tells, Added, Renewed};
 
 use arithmetic::Arithmetic;
 use cell::{Cell, Operation, OutOfRange};
@@ -14,6 +15,7 @@ pub mod cell;
 
 // The numbers of a cell.
 pub fn read<A: Arithmetic>(arith: &A, cell: Cell<A::Plain>) -> Cell<A::Number>
+    requires law { A.lawful arith.now }
     ensures answer { values A.value result ≡ reading (A.setting arith.now) cell }
     ensures number { AreNumbers (A.setting arith.now).meaning A.value result }
 {
@@ -25,19 +27,20 @@ pub fn read<A: Arithmetic>(arith: &A, cell: Cell<A::Plain>) -> Cell<A::Number>
 }
 
 // Cell j after the zero x, from the numbers of the old cells j and j − 1, or the operation that left its range.
-#[tactic(auto, using(crate::proofs::Cells::canonical_by), unfolding(coefficients::specs::Row::new_cell))]
+#[tactic(auto, unfolding(coefficients::specs::Row::new_cell))]
 fn update<A: Arithmetic>(
     arith: &mut A,
     x: A::Number,
     old: Cell<A::Number>,
     before: Cell<A::Number>,
 ) -> Result<Cell<A::Plain>, Operation>
+    requires law { A.lawful arith.old }
     requires number { IsNumber (A.setting arith.old).meaning (A.value x) }
     requires old { AreNumbers (A.setting arith.old).meaning A.value old }
     requires before { AreNumbers (A.setting arith.old).meaning A.value before }
     ensures answer { tried (A.setting arith.old) result ≡ new_cell (A.setting arith.old).meaning (A.value x) (values A.value old) (values A.value before) }
     ensures plain { WritesPlain (A.setting arith.old) result }
-    ensures same { A.setting arith.new ≡ A.setting arith.old }
+    ensures arith { Stays A.setting A.lawful arith.old arith.new }
 {
     let (p, beta) = arith
         .split_product(x, before.sum)
@@ -73,18 +76,16 @@ fn try_orders<A: Arithmetic>(
     row: &[Cell<A::Plain>],
     n: usize,
 ) -> Result<(), OutOfRange>
+    requires law { A.lawful arith.old }
     requires number { IsNumber (A.setting arith.old).meaning (A.value x) }
     requires within { n < length row.now }
     ensures answer { Tells result (row_after (A.setting arith.old).meaning (A.value x) (readings (A.setting arith.old) row.now) n) }
-    ensures same { A.setting arith.new ≡ A.setting arith.old }
+    ensures arith { Stays A.setting A.lawful arith.old arith.new }
 {
     let mut old = read(arith, row[n]);
-    for j in (0..n).rev() {
-        let before = read(arith, row[j]);
-        update(arith, x, old, before).map_err(|operation| OutOfRange {
-            order: j + 1,
-            operation,
-        })?;
+    for order in (1..=n).rev() {
+        let before = read(arith, row[order - 1]);
+        update(arith, x, old, before).map_err(|operation| OutOfRange { order, operation })?;
         old = before;
     }
     Ok(())
@@ -92,36 +93,37 @@ fn try_orders<A: Arithmetic>(
 
 // Writes the orders n down to 1 of an addition that was tried and not refused.
 fn write_orders<A: Arithmetic>(arith: &mut A, x: A::Number, row: &mut [Cell<A::Plain>], n: usize)
+    requires law { A.lawful arith.old }
     requires number { IsNumber (A.setting arith.old).meaning (A.value x) }
     requires within { n < length row.old }
     requires tried { Tells (Ok tt) (row_after (A.setting arith.old).meaning (A.value x) (readings (A.setting arith.old) row.old) n) }
     ensures cells { Added (A.setting arith.old) (A.value x) n (Ok tt) row.old row.new }
-    ensures same { A.setting arith.new ≡ A.setting arith.old }
+    ensures arith { Stays A.setting A.lawful arith.old arith.new }
 {
     let mut old = read(arith, row[n]);
-    for j in (0..n).rev() {
-        let before = read(arith, row[j]);
-        row[j + 1] = update(arith, x, old, before).unwrap();
+    for order in (1..=n).rev() {
+        let before = read(arith, row[order - 1]);
+        row[order] = update(arith, x, old, before).unwrap();
         old = before;
     }
 }
 
 // Adds the zero x as zero number `number`: to the orders 1 to min(number, K), where the row has K + 1 cells. The row is tried whole
 // before a cell is written.
-#[tactic(auto, using(crate::proofs::Additions::refused))]
+#[tactic(auto, using(crate::proofs::Trying::refused))]
 pub fn add<A: Arithmetic>(
     arith: &mut A,
     x: A::Number,
     row: &mut [Cell<A::Plain>],
     number: usize,
 ) -> Result<(), OutOfRange>
+    requires law { A.lawful arith.old }
     requires number { IsNumber (A.setting arith.old).meaning (A.value x) }
     requires some { 0 < length row.old }
     ensures cells { Added (A.setting arith.old) (A.value x) (min number (length row.old - 1)) result row.old row.new }
-    ensures same { A.setting arith.new ≡ A.setting arith.old }
+    ensures arith { Stays A.setting A.lawful arith.old arith.new }
 {
-    let highest = row.len() - 1;
-    let n = number.min(highest);
+    let n = number.min(row.len() - 1);
     try_orders(arith, x, row, n)?;
     write_orders(arith, x, row, n);
     Ok(())
@@ -137,6 +139,7 @@ fn fill<T: Copy>(row: &mut [T], value: T)
 // Makes a row new, whatever it held.
 #[tactic(auto, using(crate::proofs::Renewal::renewed_cells, crate::proofs::Renewal::renewed_reads, crate::proofs::Renewal::first_set_long))]
 pub fn renew<A: Arithmetic>(arith: &A, row: &mut [Cell<A::Plain>])
+    requires law { A.lawful arith.now }
     requires some { 0 < length row.old }
     ensures { Renewed (A.setting arith.now) row.old row.new }
 {

@@ -11,9 +11,7 @@ use Rattle.rounding.proofs.Nearest.{Nearest}
 use Rattle.rounding.proofs.Numbers.{digits_stay}
 use Rattle.rounding.proofs.Rounded.{Rounds, rounds, one_rounds}
 use Rattle.scientific.specs.Forms.{size_of}
-use Rattle.scientific.proofs.Limits.{tens}
-use Rattle.scientific.proofs.OneForm.{some_ten, below, joined}
-use Rattle.scientific.proofs.Counted.{ten}
+use Rattle.scientific.proofs.Tens.{tens, some_ten, below, joined, ten}
 
 -- S + L and S − L have S nearest, as m times D, where 2 L is below D
 near_plus : (S L D m : ℕ) → S ≡ m * D → 2 * L < D → Nearest (S + L) (1 * D) m

@@ -2,20 +2,18 @@
 -- admitted as is then read off that form and the size in units; and what is admitted is a number, since its significand is
 -- below 10^d.
 use Rattle.std.proofs.Common.{◌≡◌, ℕ, ◌-◌, ◌*◌, ◌^◌, ◌<◌, ◌≤◌, Bool, true, false, cond, ◌&&◌, ◌||◌, eqb, ltb, leb, ℤ, pos, negsuc, ◌+ℤ◌, ◌-ℤ◌, ◌*ℤ◌, nat_abs, ◌≤ℤ◌, sym, refl, ap, ◌∙◌, subst, arith}
-use lib.Dec.{leb-suc-zero}
-use lib.Signed.{lt_z, le_z_yes}
+use lib.Signed.{le_z_yes}
 use Rattle.std.proofs.lemmas.Int.{ints}
 use Rattle.std.proofs.lemmas.Bool.{leb-true, leb-false, le-leb, lt-leb}
 use Rattle.std.proofs.lemmas.Bool.Decides.{nat_tests}
 use Rattle.integers.proofs.Integers.{abs_mul}
-use Rattle.rounding.specs.Value.{signed}
 use Rattle.arithmetic.specs.Meaning.{Admission, number, not_admitted, Number}
-use Rattle.scientific.specs.Forms.{size_of, is_form, highest}
+use Rattle.scientific.specs.Forms.{with_zeros, is_form, highest}
 use Rattle.scientific.specs.Patterns.{from_to, has_digits, has_fewer, one_form, units_of, admission, reads, meaning}
+use Rattle.scientific.specs.declared.precision.Precision.{Precision}
 use Rattle.scientific.specs.declared.written.Written.{Written}
-use Rattle.scientific.proofs.Limits.{tens}
-use Rattle.scientific.proofs.OneForm.{some_ten}
-use Rattle.scientific.proofs.Values.{size_signed}
+use Rattle.scientific.proofs.Tens.{tens, some_ten}
+use Rattle.scientific.proofs.Values.{size_with}
 use Rattle.scientific.proofs.NumberOf.{number_of}
 
 -- ---- the exponent
@@ -47,7 +45,7 @@ back k = omega (arith, ints)
 together : (m k H L : ℕ) → 0 < H → H ≤ L → (eqb m 0 && eqb k 70) || (((leb H m && ltb m L) && true) || ((ltb 0 m && ltb m H) && eqb k 0)) ≡ cond (eqb m 0) (eqb k 70) (ltb m L && (eqb k 0 || leb H m))
 together m k H L h l = grind (arith, nat_tests)
 
-pub form_is : (d : ℕ) (M : ℤ) (k : ℕ) → d ≤ 8 → k ≤ 111 - d → one_form d M (pos k -ℤ pos 70) ≡ is_form d (nat_abs M) k
+form_is : (d : ℕ) (M : ℤ) (k : ℕ) → d ≤ 8 → k ≤ 111 - d → one_form d M (pos k -ℤ pos 70) ≡ is_form d (nat_abs M) k
 unfolding one_form
 form_is d M k h l = rw (at_zero k, at_least k, within k d h l) (together (nat_abs M) k (10 ^ (d - 1)) (10 ^ d) (some_ten (d - 1)) (tens (d - 1) d (omega arith)))
 
@@ -77,10 +75,10 @@ admission_is d M k h l = ap (λ (t : Bool). cond t (cond (leb (nat_abs (units_of
 pub admission_yes : (d : ℕ) (M : ℤ) (k : ℕ) → d ≤ 8 → k ≤ 111 - d → is_form d (nat_abs M) k ≡ true → nat_abs M * 10 ^ k ≤ highest → number (M *ℤ pos (10 ^ k)) ≡ admission d M (pos k -ℤ pos 70)
 admission_yes d M k h l f s = sym (admission_is d M k h l ∙ ap (outcome d M k) f ∙ ap (λ (t : Bool). cond t (number (M *ℤ pos (10 ^ k))) (not_admitted 2)) (le-leb _ _ s))
 
-pub admission_large : (d : ℕ) (M : ℤ) (k : ℕ) → d ≤ 8 → k ≤ 111 - d → is_form d (nat_abs M) k ≡ true → highest < nat_abs M * 10 ^ k → not_admitted 2 ≡ admission d M (pos k -ℤ pos 70)
+admission_large : (d : ℕ) (M : ℤ) (k : ℕ) → d ≤ 8 → k ≤ 111 - d → is_form d (nat_abs M) k ≡ true → highest < nat_abs M * 10 ^ k → not_admitted 2 ≡ admission d M (pos k -ℤ pos 70)
 admission_large d M k h l f s = sym (admission_is d M k h l ∙ ap (outcome d M k) f ∙ ap (λ (t : Bool). cond t (number (M *ℤ pos (10 ^ k))) (not_admitted 2)) (lt-leb _ _ s))
 
-pub admission_other : (d : ℕ) (M : ℤ) (k : ℕ) → d ≤ 8 → k ≤ 111 - d → is_form d (nat_abs M) k ≡ false → not_admitted 3 ≡ admission d M (pos k -ℤ pos 70)
+admission_other : (d : ℕ) (M : ℤ) (k : ℕ) → d ≤ 8 → k ≤ 111 - d → is_form d (nat_abs M) k ≡ false → not_admitted 3 ≡ admission d M (pos k -ℤ pos 70)
 admission_other d M k h l f = sym (admission_is d M k h l ∙ ap (outcome d M k) f)
 
 pub admission_out : (d : ℕ) (M e : ℤ) → d ≤ 8 → from_to (negsuc 69) (pos (41 - d)) e ≡ false → not_admitted 3 ≡ admission d M e
@@ -94,7 +92,7 @@ few_digits d m k f = small m (10 ^ d) (10 ^ (d - 1)) k (some_ten d) f
     small : (m L H k : ℕ) → 0 < L → cond (eqb m 0) (eqb k 70) (ltb m L && (eqb k 0 || leb H m)) ≡ true → m < L
     small m L H k p f = grind (arith, nat_tests)
 
-pub formed_number : (d : ℕ) (M : ℤ) (k : ℕ) → 1 ≤ d → is_form d (nat_abs M) k ≡ true → nat_abs M * 10 ^ k ≤ highest → Number (meaning d) (M *ℤ pos (10 ^ k))
+formed_number : (d : ℕ) (M : ℤ) (k : ℕ) → 1 ≤ d → is_form d (nat_abs M) k ≡ true → nat_abs M * 10 ^ k ≤ highest → Number (meaning d) (M *ℤ pos (10 ^ k))
 formed_number d M k h f s = number_of d (M *ℤ pos (10 ^ k)) h (record { m = nat_abs M; e = k; is = abs_mul M (pos (10 ^ k)); few = few_digits d (nat_abs M) k f }) (rw (abs_mul M (pos (10 ^ k))) s)
 
 pub admission_number : (d : ℕ) (M e a : ℤ) → 1 ≤ d → d ≤ 8 → admission d M e ≡ number a → Number (meaning d) a
@@ -127,7 +125,10 @@ pub reads_none : (d : ℕ) (w : Written) (c : ℕ) → not_admitted c ≡ admiss
 reads_none d w c e = reads_by d w (not_admitted c) e
 
 -- ---- with the size s of M and the zeros k apart, as code has them
-module _ (d : ℕ) (M e : ℤ) (s k : ℕ) (h : d ≤ 8) (size : s ≡ nat_abs M) (behind : (e ≡ pos k -ℤ pos 70) × (k ≤ 111 - d)) where
+module _ (p : Precision) (M e : ℤ) (s k : ℕ) (size : s ≡ nat_abs M) (behind : (e ≡ pos k -ℤ pos 70) × (k ≤ 111 - p.digits)) where
+  abbrev d : ℕ
+  d = p.digits
+
   formed_by : (t : Bool) → t ≡ is_form d s k → is_form d (nat_abs M) k ≡ t
   formed_by t f = sym (f ∙ ap (λ (x : ℕ). is_form d x k) size)
 
@@ -135,20 +136,13 @@ module _ (d : ℕ) (M e : ℤ) (s k : ℕ) (h : d ≤ 8) (size : s ≡ nat_abs M
   at_e a q = q ∙ ap (admission d M) (sym behind.0)
 
   pub parts_other : false ≡ is_form d s k → not_admitted 3 ≡ admission d M e
-  parts_other f = at_e (not_admitted 3) (admission_other d M k h behind.1 (formed_by false f))
+  parts_other f = at_e (not_admitted 3) (admission_other d M k p.most behind.1 (formed_by false f))
 
-  pub parts_large : (t : Bool) → true ≡ is_form d s k → highest < nat_abs (signed t (size_of s k)) → not_admitted 2 ≡ admission d M e
-  parts_large t f l = at_e (not_admitted 2) (admission_large d M k h behind.1 (formed_by true f) (subst (λ (x : ℕ). highest < x * 10 ^ k) size (subst (λ (x : ℕ). highest < x) (size_signed t (size_of s k)) l)))
+  pub parts_large : true ≡ is_form d s k → highest < nat_abs (with_zeros M k) → not_admitted 2 ≡ admission d M e
+  parts_large f l = at_e (not_admitted 2) (admission_large d M k p.most behind.1 (formed_by true f) (rw (size_with M k) at l))
 
-  pub parts_number : (z : ℤ) → 1 ≤ d → true ≡ is_form d s k → z ≡ signed (lt_z M (pos 0)) (size_of s k) → nat_abs z ≤ highest → (number z ≡ admission d M e) × Number (meaning d) z
-  parts_number z n f q l = (ap number value ∙ at_e (number (M *ℤ pos (10 ^ k))) (admission_yes d M k h behind.1 (formed_by true f) small), rw value (formed_number d M k n (formed_by true f) small))
+  pub parts_number : (z : ℤ) → true ≡ is_form d s k → z ≡ with_zeros M k → nat_abs z ≤ highest → (number z ≡ admission d M e) × Number (meaning d) z
+  parts_number z f q l = (ap number q ∙ at_e (number (with_zeros M k)) (admission_yes d M k p.most behind.1 (formed_by true f) small), rw q (formed_number d M k (omega (arith, p.least)) (formed_by true f) small))
     where
-      signs : (M : ℤ) (x : ℕ) → signed (lt_z M (pos 0)) (nat_abs M * x) ≡ M *ℤ pos x
-      signs (pos n) x = ap (λ (t : Bool). signed t (n * x)) (leb-suc-zero n)
-      signs (negsuc n) x = refl
-
-      value : z ≡ M *ℤ pos (10 ^ k)
-      value = q ∙ ap (λ (x : ℕ). signed (lt_z M (pos 0)) (x * 10 ^ k)) size ∙ signs M (10 ^ k)
-
       small : nat_abs M * 10 ^ k ≤ highest
-      small = rw (← abs_mul M (pos (10 ^ k)), ← value) l
+      small = rw (← size_with M k, ← q) l

@@ -7,7 +7,7 @@ use Rattle.std.proofs.lemmas.Bool.Decides.{nat_tests}
 use Rattle.arithmetic.specs.Meaning.{Admission, number, not_admitted, Number}
 use Rattle.scientific.specs.Forms.{highest}
 use Rattle.scientific.specs.Patterns.{zeros, written, admission, from_complement, complement, M_in, e_in, ends_in_zeros, admitted, bytes, pattern, meaning}
-use Rattle.scientific.proofs.Limits.{tens}
+use Rattle.scientific.proofs.Tens.{tens}
 use Rattle.scientific.proofs.NumberOf.{bound_of}
 use Rattle.scientific.proofs.Admissions.{admission_number}
 use Rattle.scientific.proofs.OneWritten.{written_admitted, small_m, few_zeros}

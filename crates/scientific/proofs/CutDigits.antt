@@ -1,20 +1,20 @@
 -- From the one form with eight digits to the one form with d: of c digits, c − d are cut off and become zeros. That many zeros
 -- are the least, since the first digit stays; and where nothing is cut off but zeros stand behind, all eight digits are there.
-use Rattle.std.proofs.Common.{◌≡◌, ℕ, suc, ◌+◌, ◌-◌, ◌*◌, ◌/◌, ◌^◌, ◌<◌, ◌≤◌, Bool, true, false, cond, ◌⊎◌, ℤ, pos, ◌-ℤ◌, nat_abs, sym, refl, ap, ◌∙◌, inl, inr, le_trans, lt_of_lt_of_le, lt_irrefl, mul-le-mul_right, mul_comm, mul-lt-mul_of_pos_right, mul-pos, arith, pow-add}
+use Rattle.std.proofs.Common.{◌≡◌, ℕ, suc, ◌+◌, ◌-◌, ◌*◌, ◌/◌, ◌^◌, ◌<◌, ◌≤◌, Bool, true, cond, ◌⊎◌, ℤ, pos, negsuc, ◌-ℤ◌, neg_ℤ, nat_abs, sym, refl, ap, ◌∙◌, inl, inr, le_trans, lt_of_lt_of_le, lt_irrefl, mul-le-mul_right, mul_comm, mul-lt-mul_of_pos_right, mul-pos, arith, pow-add}
 use native.Mathlib.Nat.{mul-div-mul_right}
 use native.Mathlib.Decide.{dec_le}
 use lib.Signed.{quot_z}
+use Rattle.std.proofs.lemmas.Int.{ints}
 use Rattle.std.proofs.lemmas.Bool.{ne_eqb}
 use Rattle.integers.proofs.Integers.{quot_neg}
 use Rattle.integers.proofs.Naturals.{before}
-use Rattle.rounding.specs.Value.{signed}
-use Rattle.scientific.specs.Forms.{size_of, is_full}
+use Rattle.scientific.specs.Forms.{size_of, with_zeros, is_full}
 use Rattle.scientific.specs.Patterns.{zeros, written}
 use Rattle.scientific.specs.declared.written.Written.{Written}
-use Rattle.scientific.proofs.Limits.{tens, full_is}
-use Rattle.rounding.specs.Radix.{exponent}
-use Rattle.scientific.proofs.Values.{size_signed}
-use Rattle.scientific.proofs.OneForm.{Counts, some_ten, joined}
+use Rattle.scientific.proofs.Tens.{tens, some_ten, joined}
+use Rattle.scientific.proofs.Limits.{full_is}
+use Rattle.scientific.proofs.Values.{size_with}
+use Rattle.scientific.proofs.OneForm.{Counts}
 use Rattle.scientific.proofs.LeastZeros.{Least, zeros_is}
 
 cut_least : (s q d c : ℕ) → is_full s q ≡ true → d ≤ 8 → Counts s c → Least d (size_of s q) (q + (c - d))
@@ -38,20 +38,16 @@ cut_least s q d c f h C = record { under = under; least = least }
             eight (inl z) = absurd (omega arith)
             eight (inr m) = le_trans (mul-le-mul_right (10 ^ j) (tens d 8 h)) (rw (joined 8 j (7 + q) (omega arith), ← joined 7 q (7 + q) refl) (mul-le-mul_right (10 ^ q) m))
 
-pub cut_zeros : (s q d c : ℕ) → is_full s q ≡ true → d ≤ 8 → Counts s c → q + (c - d) ≡ zeros d (pos (size_of s q))
-cut_zeros s q d c f h C = sym (zeros_is d (pos (size_of s q)) (q + (c - d)) (cut_least s q d c f h C))
-
-pub cut_size : (s q x : ℕ) → s / 10 ^ x ≡ size_of s q / 10 ^ (q + x)
-cut_size s q x = sym (ap (λ y. s * 10 ^ q / y) (pow-add 10 q x ∙ mul_comm (10 ^ q) (10 ^ x)) ∙ mul-div-mul_right s (10 ^ x) (some_ten q))
+cut_zeros : (s : ℤ) (q d c : ℕ) → is_full (nat_abs s) q ≡ true → d ≤ 8 → Counts (nat_abs s) c → q + (c - d) ≡ zeros d (with_zeros s q)
+cut_zeros s q d c f h C = sym (zeros_is d (with_zeros s q) (q + (c - d)) (rw (size_with s q) (cut_least (nat_abs s) q d c f h C)))
 
 -- ---- M and e of the number
-zeros_signed : (d : ℕ) (t : Bool) (n : ℕ) → zeros d (signed t n) ≡ zeros d (pos n)
-unfolding zeros
-zeros_signed d t n = ap (λ y. exponent 10 y y (10 ^ d)) (size_signed t n)
+cut_size : (s q x : ℕ) → s / 10 ^ x ≡ size_of s q / 10 ^ (q + x)
+cut_size s q x = sym (ap (λ y. s * 10 ^ q / y) (pow-add 10 q x ∙ mul_comm (10 ^ q) (10 ^ x)) ∙ mul-div-mul_right s (10 ^ x) (some_ten q))
 
-quot_signed : (t : Bool) (n x : ℕ) → quot_z (signed t n) (pos x) ≡ signed t (n / x)
-quot_signed true n x = quot_neg n x
-quot_signed false n x = refl
+cut_signed : (s : ℤ) (q x : ℕ) → quot_z s (pos (10 ^ x)) ≡ quot_z (with_zeros s q) (pos (10 ^ (q + x)))
+cut_signed (pos n) q x = ap pos (cut_size n q x)
+cut_signed (negsuc n) q x = quot_neg (suc n) (10 ^ x) ∙ ap (λ (y : ℕ). neg_ℤ (pos y)) (cut_size (suc n) q x) ∙ sym (quot_neg (suc n * 10 ^ q) (10 ^ (q + x)))
 
 abbrev make : ℤ → ℤ → Written
 make m e = record { m = m; e = e }
@@ -59,15 +55,20 @@ make m e = record { m = m; e = e }
 alike : (w v : Written) → w.m ≡ v.m → w.e ≡ v.e → w ≡ v
 alike w v p q = ap (λ (m : ℤ). make m w.e) p ∙ ap (make v.m) q
 
-pub written_signed : (d : ℕ) (t : Bool) (n k : ℕ) (w : Written) → (n ≡ 0 → ⊥) → k ≡ zeros d (pos n) → w.m ≡ signed t (n / 10 ^ k) → w.e ≡ pos k -ℤ pos 70 → w ≡ written d (signed t n)
-unfolding written
-written_signed d t n k w z e f g = alike w (written d (signed t n)) (f ∙ sym (quot_signed t n (10 ^ k)) ∙ ap (λ (x : ℕ). quot_z (signed t n) (pos (10 ^ x))) same) (g ∙ ap (λ (x : ℕ). pos x -ℤ pos 70) same ∙ ap (λ (b : Bool). cond b (pos 0) (pos (zeros d (signed t n)) -ℤ pos 70)) (sym (ne_eqb (nat_abs (signed t n)) 0 (λ q. z (sym (size_signed t n) ∙ q)))))
+pub some_size : (s : ℤ) (q : ℕ) → (s ≡ pos 0 → ⊥) → nat_abs (with_zeros s q) ≡ 0 → ⊥
+some_size s q n e = lt_irrefl 0 (rw (sym (size_with s q) ∙ e) at (mul-pos (above s n) (some_ten q)))
   where
-    same : k ≡ zeros d (signed t n)
-    same = e ∙ sym (zeros_signed d t n)
+    above : (s : ℤ) → (s ≡ pos 0 → ⊥) → 0 < nat_abs s
+    above s n = omega (arith, ints)
 
-pub some_size : (s q : ℕ) → (s ≡ 0 → ⊥) → size_of s q ≡ 0 → ⊥
-some_size s q n e = lt_irrefl 0 (rw e at (mul-pos (above s n) (some_ten q)))
+-- the significand s with q zeros has c digits, of which those past the d-th are cut off
+pub written_is : (d : ℕ) (s : ℤ) (q c : ℕ) (w : Written) → is_full (nat_abs s) q ≡ true → d ≤ 8 → Counts (nat_abs s) c → (s ≡ pos 0 → ⊥) → w.m ≡ quot_z s (pos (10 ^ (c - d))) → w.e ≡ pos (q + (c - d)) -ℤ pos 70 → w ≡ written d (with_zeros s q)
+unfolding written
+written_is d s q c w f h C n m e = alike w (written d z) (m ∙ cut_signed s q (c - d) ∙ ap (λ (x : ℕ). quot_z z (pos (10 ^ x))) same)
+    (e ∙ ap (λ (x : ℕ). pos x -ℤ pos 70) same ∙ ap (λ (b : Bool). cond b (pos 0) (pos (zeros d z) -ℤ pos 70)) (sym (ne_eqb (nat_abs z) 0 (some_size s q n))))
   where
-    above : (m : ℕ) → (m ≡ 0 → ⊥) → 0 < m
-    above m n = omega arith
+    z : ℤ
+    z = with_zeros s q
+
+    same : q + (c - d) ≡ zeros d (with_zeros s q)
+    same = cut_zeros s q d c f h C

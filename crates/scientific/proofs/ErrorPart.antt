@@ -1,20 +1,22 @@
 -- The error part of a whole number n that is rounded to d digits: how large it is, against n and against the rounded one, and
 -- that the zeros behind n stand behind both parts.
-use Rattle.std.proofs.Common.{◌≡◌, ℕ, ◌+◌, ◌-◌, ◌*◌, ◌^◌, ◌<◌, ◌≤◌, Bool, not, ℤ, ◌+ℤ◌, nat_abs, sym, refl, ap, ◌∙◌, subst, inl, le_trans, lt_of_lt_of_le, mul-le-mul_right, mul_assoc, mul-le-mul_left, mul-one, arith, lit≤, pow-add}
+use Rattle.std.proofs.Common.{◌≡◌, ℕ, ◌+◌, ◌-◌, ◌*◌, ◌^◌, ◌<◌, ◌≤◌, ℤ, pos, ◌-ℤ◌, ◌*ℤ◌, neg_ℤ, nat_abs, sym, ap, ◌∙◌, subst, inl, le_trans, lt_of_lt_of_le, mul-le-mul_right, mul_assoc, mul-le-mul_left, mul-one, arith, lit≤}
 use native.Mathlib.Nat.{le_of_mul-le-mul_left}
 use native.Mathlib.Decide.{dec_le}
+use Rattle.integers.proofs.Integers.{abs_neg}
 use Rattle.integers.proofs.Naturals.{dist, cancel}
-use Rattle.rounding.specs.Digits.{Digits}
+use Rattle.integers.proofs.Ring.{ring, at, num, ◌⊕◌, ◌⊗◌, ⊖◌}
+use Rattle.rounding.specs.Digits.{Digits, Number}
 use Rattle.rounding.specs.Radix.{rounded}
-use Rattle.rounding.specs.Value.{signed}
 use Rattle.rounding.proofs.Numbers.{digits_from, digits_zero}
 use Rattle.rounding.proofs.Closest.{closest}
 use Rattle.rounding.proofs.Rounded.{Rounds, rounds, tight, exact_out}
-use Rattle.scientific.specs.Forms.{size_of}
-use Rattle.scientific.proofs.Limits.{tens}
-use Rattle.scientific.proofs.OneForm.{some_ten, joined}
-use Rattle.scientific.proofs.Values.{size_signed, above_signed, rest_size, rest_makes}
-use Rattle.scientific.proofs.Counted.{ten}
+use Rattle.rounding.proofs.Signs.{abs_rounding, off_rounding}
+use Rattle.scientific.specs.Forms.{size_of, with_zeros}
+use Rattle.scientific.specs.Splits.{rounded_to, error}
+use Rattle.scientific.proofs.Tens.{ten, tens, some_ten, joined}
+use Rattle.scientific.proofs.Values.{size_with, with_difference}
+use Rattle.scientific.proofs.Shifted.{whole_behind}
 
 -- ---- digits
 -- a significand of at most 10^d is a number of eight digits
@@ -24,11 +26,7 @@ short_digits d m h l = digits_from 10 8 ten (lit≤ tt) m 0 (record { times = m;
 pub more_digits : (d x : ℕ) → d ≤ 8 → Digits 10 d x → Digits 10 8 x
 more_digits d x h k = record { m = k.m; e = k.e; is = k.is; few = lt_of_lt_of_le k.few (tens d 8 h) }
 
--- with zeros behind
-digits_with : (d x k : ℕ) → Digits 10 d x → Digits 10 d (size_of x k)
-digits_with d x k h = record { m = h.m; e = h.e + k; is = ap (λ (y : ℕ). y * 10 ^ k) h.is ∙ mul_assoc h.m (10 ^ h.e) (10 ^ k) ∙ ap (λ (y : ℕ). h.m * y) (joined h.e k (h.e + k) refl); few = h.few }
-
--- and without
+-- without the zeros behind it
 pub digits_off : (d x k : ℕ) → Digits 10 d (size_of x k) → Digits 10 d x
 digits_off d x k h = go (dec_le k h.e)
   where
@@ -45,10 +43,6 @@ digits_off d x k h = go (dec_le k h.e)
         less : (y : ℕ) → 0 < y → x * y ≡ h.m → x < 10 ^ d
         less y p e = omega (arith, mul-le-mul_left x p, h.few)
 
--- a significand m with z zeros is v: with k zeros more it is v with those
-pub value_with : (m z v k : ℕ) → m * 10 ^ z ≡ v → size_of m (z + k) ≡ size_of v k
-value_with m z v k e = ap (λ (x : ℕ). m * x) (pow-add 10 z k) ∙ sym (mul_assoc m (10 ^ z) (10 ^ k)) ∙ ap (λ (x : ℕ). x * 10 ^ k) e
-
 -- ---- sizes
 module _ (d n : ℕ) (P : 1 ≤ d) where
   abbrev v : ℕ
@@ -58,10 +52,10 @@ module _ (d n : ℕ) (P : 1 ≤ d) where
   a = rounds 10 d ten P n 1 (lit≤ tt)
 
   -- 0 is a number, and nothing is nearer than what is rounded
-  pub at_most_double : v ≤ 2 * n
-  at_most_double = plain n v (closest 10 d ten P n 1 v 0 (lit≤ tt) a (digits_zero 10 d ten P))
+  at_most_own : dist n v ≤ n
+  at_most_own = plain n v (closest 10 d ten P n 1 v 0 (lit≤ tt) a (digits_zero 10 d ten P))
     where
-      plain : (n v : ℕ) → dist n (v * 1) ≤ dist n (0 * 1) → v ≤ 2 * n
+      plain : (n v : ℕ) → dist n (v * 1) ≤ dist n (0 * 1) → dist n v ≤ n
       plain n v h = omega arith
 
   at_least_half : n ≤ 2 * v
@@ -73,24 +67,43 @@ module _ (d n : ℕ) (P : 1 ≤ d) where
       plain : (H n v : ℕ) → 0 < H → 2 * H * n ≤ 2 * H * (v * 1) + v * 1 → n ≤ 2 * v
       plain H n v p h = le_of_mul-le-mul_left {k = 2 * H} (omega (arith, mul-le-mul_right v p)) (omega arith)
 
-  part_small : dist n v ≤ v
-  part_small = plain n v at_least_half
+  at_most_rounded : dist n v ≤ v
+  at_most_rounded = plain n v at_least_half
     where
       plain : (n v : ℕ) → n ≤ 2 * v → dist n v ≤ v
       plain n v h = omega arith
 
--- ---- the two parts with their signs: n is v and x, where v is n rounded, and k zeros stand behind
-module _ (d : ℕ) (t u : Bool) (n x k : ℕ) (P : 1 ≤ d) (part : Digits 10 d (dist n (rounded 10 d n 1))) (e : signed u x ≡ signed t n +ℤ signed (not t) (rounded 10 d n 1)) where
-  pub rest_digits : Digits 10 d x
-  rest_digits = subst (Digits 10 d) (sym (rest_size t u n (rounded 10 d n 1) x e)) part
+-- ---- with the sign
+module _ (d : ℕ) (n : ℤ) (P : 1 ≤ d) where
+  size_rounded : nat_abs (rounded_to d n) ≡ rounded 10 d (nat_abs n) 1
+  size_rounded = abs_rounding 10 d 1 ten P (lit≤ tt) n 1 ∙ ap (λ (x : ℕ). rounded 10 d x 1) (mul-one (nat_abs n))
 
-  pub rest_above : (l : ℕ) → l < nat_abs (signed u (size_of x k)) → l < nat_abs (signed t (size_of (rounded 10 d n 1) k))
-  rest_above l h = above_signed t l (size_of (rounded 10 d n 1) k) (lt_of_lt_of_le (rw (size_signed u (size_of x k)) at h) (mul-le-mul_right (10 ^ k) (rw (rest_size t u n (rounded 10 d n 1) x e) (part_small d n P))))
+  pub size_error : nat_abs (error d n) ≡ dist (nat_abs n) (rounded 10 d (nat_abs n) 1)
+  size_error = sym (abs_neg (n -ℤ rounded_to d n)) ∙ ap nat_abs turned ∙ off_rounding 10 d 1 ten P (lit≤ tt) n 1 ∙ rw (mul-one (nat_abs n), mul-one (rounded 10 d (nat_abs n) 1))
+    where
+      turned : neg_ℤ (n -ℤ rounded_to d n) ≡ rounded_to d n *ℤ pos 1 -ℤ n *ℤ pos 1
+      turned = ring (⊖ (at n ⊕ (⊖ at (rounded_to d n)))) (at (rounded_to d n) ⊗ num 1 ⊕ (⊖ (at n ⊗ num 1))) (omega arith)
 
-  pub split : (a b : ℤ) → a ≡ signed t (size_of (rounded 10 d n 1) k) → b ≡ signed u (size_of x k)
-      → (a ≡ signed t (size_of (rounded 10 d n 1) k)) × (a +ℤ b ≡ signed t (size_of n k)) × Digits 10 d (nat_abs b)
-  split a b f g = (
-    f,
-    ap (λ (z : ℤ). z +ℤ b) f ∙ ap (λ (z : ℤ). signed t (size_of (rounded 10 d n 1) k) +ℤ z) g ∙ rest_makes t u n (rounded 10 d n 1) x (10 ^ k) e,
-    subst (Digits 10 d) (sym (ap nat_abs g ∙ size_signed u (size_of x k))) (digits_with d x k rest_digits),
-  )
+  pub error_at_most_own : nat_abs (error d n) ≤ nat_abs n
+  error_at_most_own = rw size_error (at_most_own d (nat_abs n) P)
+
+  pub rounded_at_most_double : nat_abs (rounded_to d n) ≤ 2 * nat_abs n
+  rounded_at_most_double = rw size_rounded (plain (nat_abs n) _ (at_most_own d (nat_abs n) P))
+    where
+      plain : (n v : ℕ) → dist n v ≤ n → v ≤ 2 * n
+      plain n v h = omega arith
+
+  -- ---- with k zeros behind n
+  module _ (k : ℕ) where
+    pub rounded_with : with_zeros (rounded_to d n) k ≡ rounded_to d (with_zeros n k)
+    rounded_with = sym (whole_behind d P n k)
+
+    pub error_with : with_zeros (error d n) k ≡ error d (with_zeros n k)
+    error_with = with_difference n (rounded_to d n) k ∙ ap (λ (z : ℤ). with_zeros n k -ℤ z) rounded_with
+
+    pub error_digits : Number 10 d (error d (with_zeros n k)) → Digits 10 d (nat_abs (error d n))
+    error_digits h = digits_off d (nat_abs (error d n)) k (subst (Digits 10 d) (ap nat_abs (sym error_with) ∙ size_with (error d n) k) h)
+
+    -- where the error part is above a limit, the rounded one is
+    pub error_above : (l : ℕ) → l < nat_abs (with_zeros (error d n) k) → l < nat_abs (rounded_to d (with_zeros n k))
+    error_above l h = rw (← rounded_with, size_with (rounded_to d n) k, size_rounded) (lt_of_lt_of_le (rw (size_with (error d n) k, size_error) at h) (mul-le-mul_right (10 ^ k) (at_most_rounded d (nat_abs n) P)))

@@ -11,8 +11,7 @@ use Rattle.rounding.proofs.Rounded.{rounds, rounds_mono, stays}
 use Rattle.rounding.proofs.Signs.{abs_rounding}
 use Rattle.scientific.specs.Patterns.{zeros, written, meaning}
 use Rattle.scientific.specs.Ties.{TiesToEvenM}
-use Rattle.scientific.proofs.Limits.{tens}
-use Rattle.scientific.proofs.OneForm.{some_ten, joined}
+use Rattle.scientific.proofs.Tens.{tens, some_ten, joined}
 use Rattle.scientific.proofs.LeastZeros.{zeros_least}
 use Rattle.scientific.proofs.NumberOf.{law}
 use Rattle.scientific.proofs.OneWritten.{shape}

@@ -1,33 +1,38 @@
 -- Sizes in the form with eight digits. More zeros are a larger size, since then the larger has all eight digits: 10^7 with a zero
 -- more are 10^8. So the zeros and then the significand order the sizes, and 10^30 units are reached at 23 zeros.
-use Rattle.std.proofs.Common.{◌≡◌, ℕ, suc, ◌+◌, ◌*◌, ◌^◌, ◌<◌, ◌≤◌, Bool, true, false, not, ◌&&◌, leb, ◌⊎◌, pos, neg_ℤ, nat_abs, sym, refl, ◌∙◌, inl, inr, le_trans, lt_of_lt_of_le, lt_irrefl, mul-le-mul_right, mul-le-mul, mul-lt-mul_of_pos_right, mul-pos, zero-mul, arith, lit<}
+use Rattle.std.proofs.Common.{◌≡◌, ℕ, suc, ◌+◌, ◌*◌, ◌^◌, ◌<◌, ◌≤◌, Bool, true, false, ◌&&◌, leb, ◌⊎◌, ℤ, pos, negsuc, neg_ℤ, nat_abs, sym, refl, ap, inl, inr, le_trans, lt_of_lt_of_le, mul-le-mul_right, mul-le-mul, mul-lt-mul_of_pos_right, zero-mul, arith, lit<}
 use native.Mathlib.Nat.{pow-succ'}
 use native.Mathlib.Decide.{dec_le}
-use lib.Signed.{le_z}
+use lib.Dec.{leb-suc-zero}
+use lib.Signed.{lt_z, le_z}
 use Rattle.std.proofs.lemmas.Int.{ints}
-use Rattle.std.proofs.lemmas.Bool.{le-leb, lt-leb, ne_eqb}
 use Rattle.std.proofs.lemmas.Bool.Decides.{nat_tests}
+use Rattle.integers.proofs.Ring.{ring, at, num, ◌⊗◌, ⊖◌}
+use Rattle.integers.proofs.Tests.{leb_yes, eqb_no}
 use Rattle.rounding.specs.Value.{signed}
 use Rattle.arithmetic.specs.Operations.{in_limits, size}
-use Rattle.scientific.specs.Forms.{size_of, is_full, is_small, lowest, highest}
+use Rattle.scientific.specs.Forms.{size_of, with_zeros, lowest, highest}
 use Rattle.scientific.specs.Numbers.{units}
 use Rattle.scientific.specs.Patterns.{meaning}
 use Rattle.scientific.specs.declared.number.Scientific.{Scientific}
-use Rattle.scientific.proofs.Limits.{tens, full_eight, small_is, small_in, under_highest, from_lowest, below_lowest}
-use Rattle.scientific.proofs.OneForm.{some_ten}
-use Rattle.scientific.proofs.Values.{size_signed}
+use Rattle.scientific.proofs.Tens.{tens, some_ten}
+use Rattle.scientific.proofs.Values.{size_with}
+use Rattle.scientific.proofs.CutDigits.{some_size}
+use Rattle.scientific.proofs.Meanings.{bounded}
 
 -- ---- signs
-pub negative_is : (s : Bool) (n : ℕ) → signed (not s) n ≡ neg_ℤ (signed s n)
-negative_is true n = omega (arith, ints)
-negative_is false n = refl
+pub negative_is : (n : ℤ) (k : ℕ) → with_zeros (neg_ℤ n) k ≡ neg_ℤ (with_zeros n k)
+negative_is n k = ring ((⊖ at n) ⊗ num (10 ^ k)) (⊖ (at n ⊗ num (10 ^ k))) (omega arith)
 
-pub size_is : (s : Bool) (n : ℕ) → pos n ≡ size (signed s n)
-size_is true n = omega (arith, ints)
-size_is false n = refl
+pub size_is : (n : ℤ) (k : ℕ) → pos (nat_abs n * 10 ^ k) ≡ size (with_zeros n k)
+size_is n k = ap pos (sym (size_with n k))
+
+by_sign : (n : ℤ) (k : ℕ) → signed (lt_z n (pos 0)) (nat_abs n * 10 ^ k) ≡ with_zeros n k
+by_sign (pos n) k = ap (λ (t : Bool). signed t (n * 10 ^ k)) (leb-suc-zero n)
+by_sign (negsuc n) k = refl
 
 -- ---- the form with eight digits
-abbrev pub Full : ℕ → ℕ → Type 0
+abbrev Full : ℕ → ℕ → Type 0
 Full m k = (m < 10 ^ 8) × ((k ≡ 0) ⊎ (10 ^ 7 ≤ m))
 
 more_zeros : (m k m' k' : ℕ) → Full m k → Full m' k' → k < k' → m * 10 ^ k < m' * 10 ^ k'
@@ -82,10 +87,17 @@ signed_order true false R R' V V' a b c e f g h k = grind (arith, ints, nat_test
 signed_order false true R R' V V' a b c e f g h k = grind (arith, ints, nat_tests)
 signed_order false false R R' V V' a b c e f g h k = grind (arith, ints, nat_tests)
 
-pub rank_order : (s t : Bool) (m k m' k' : ℕ) → Full m k → Full m' k' → le_z (signed s (k * 10 ^ 8 + m)) (signed t (k' * 10 ^ 8 + m')) ≡ le_z (signed s (size_of m k)) (signed t (size_of m' k'))
-rank_order s t m k m' k' a b =
-    signed_order s t (rank m k) (rank m' k') (size_of m k) (size_of m' k') (rank_le m k m' k' a b) (rank_lt m' k' m k b a) (rank_le m' k' m k b a) (rank_lt m k m' k' a b) (none m k a) (some m k a) (none m' k' b) (some m' k' b)
+pub rank_order : (n : ℤ) (k : ℕ) (n' : ℤ) (k' : ℕ) → Full (nat_abs n) k → Full (nat_abs n') k'
+    → le_z (signed (lt_z n (pos 0)) (k * 10 ^ 8 + nat_abs n)) (signed (lt_z n' (pos 0)) (k' * 10 ^ 8 + nat_abs n')) ≡ le_z (with_zeros n k) (with_zeros n' k')
+rank_order n k n' k' a b = rw (← by_sign n k, ← by_sign n' k')
+    (signed_order (lt_z n (pos 0)) (lt_z n' (pos 0)) (rank m k) (rank m' k') (size_of m k) (size_of m' k') (rank_le m k m' k' a b) (rank_lt m' k' m k b a) (rank_le m' k' m k b a) (rank_lt m k m' k' a b) (none m k a) (some m k a) (none m' k' b) (some m' k' b))
   where
+    m : ℕ
+    m = nat_abs n
+
+    m' : ℕ
+    m' = nat_abs n'
+
     some : (m k : ℕ) → Full m k → 0 < rank m k → 0 < size_of m k
     some m k a h = rank_lt 0 0 m k nothing a h
 
@@ -93,31 +105,11 @@ rank_order s t m k m' k' a b =
     none m k a h = let e : m ≡ 0 = omega arith in rw e (zero-mul (10 ^ k))
 
 -- ---- the limits
-lowest_by : (m k : ℕ) → Full m k → (m ≡ 0 → ⊥) → leb 23 k ≡ leb lowest (size_of m k)
-lowest_by m k a n = go (dec_le 23 k)
-  where
-    go : Dec (23 ≤ k) → leb 23 k ≡ leb lowest (size_of m k)
-    go (yes l) = le-leb 23 k l ∙ sym (le-leb lowest (size_of m k) (from_lowest m k (enough a.1) l))
-      where
-        enough : (k ≡ 0) ⊎ (10 ^ 7 ≤ m) → 10 ^ 7 ≤ m
-        enough (inl e) = absurd (omega arith)
-        enough (inr l) = l
-    go (no l) = lt-leb 23 k (omega arith) ∙ sym (lt-leb lowest (size_of m k) (below_lowest m k a.0 (omega arith)))
-
-pub limits_some : (d : ℕ) (s : Bool) (m k : ℕ) → Full m k → is_small m k ≡ true → (m ≡ 0 → ⊥) → leb 23 k ≡ in_limits (meaning d) (signed s (size_of m k))
+-- a number is at most 10^40 in size, so only zero and the lower limit are left to tell
+pub limits_some : (d : ℕ) (x : Scientific) → (x.significand ≡ pos 0 → ⊥) → leb lowest (nat_abs (units x)) ≡ in_limits (meaning d) (units x)
 unfolding meaning
-limits_some d s m k a h n = rw (size_signed s (size_of m k), h, ← lowest_by m k a n, ne_eqb (m * 10 ^ k) 0 (λ e. lt_irrefl 0 (rw e at (mul-pos (above m n) (some_ten k))))) (last (leb 23 k))
+limits_some d x n = rw (leb_yes (nat_abs (units x)) highest (bounded x), eqb_no (nat_abs (units x)) 0 (some_size x.significand x.zeros n)) (last (leb lowest (nat_abs (units x))))
   where
-    above : (m : ℕ) → (m ≡ 0 → ⊥) → 0 < m
-    above m n = omega arith
-
     last : (t : Bool) → t ≡ (t && true)
     last true = refl
     last false = refl
-
--- ---- eight digits with few zeros behind them
-pub eight_digits : (m k : ℕ) → 10 ^ 7 ≤ m → m < 10 ^ 8 → k < 103 → (is_full m k ≡ true) × (is_small m k ≡ true)
-eight_digits m k h l f = (full_eight m k l h, small_in m k (under_highest m k l f))
-
-pub bounded : (x : Scientific) → nat_abs (units x) ≤ highest
-bounded x = rw (size_signed x.negative (size_of x.significand x.zeros)) (small_is x.significand x.zeros x.small)

@@ -1,11 +1,16 @@
 -- Grains: k u is 5 k units of 10^(70−d), since U times that is k Q.
-use Rattle.std.proofs.Common.{◌≡◌, ℕ, ◌+◌, ◌-◌, ◌*◌, ◌^◌, ◌<◌, ◌≤◌, ℤ, pos, ◌*ℤ◌, sym, ap, ◌∙◌, mul-pos, zero-mul, arith, lit<, pow-add}
+use Rattle.std.proofs.Common.{◌≡◌, ℕ, ◌+◌, ◌-◌, ◌*◌, ◌^◌, ◌<◌, ◌≤◌, ℤ, pos, ◌*ℤ◌, nat_abs, Some, None, Option, sym, refl, ap, ◌∙◌, subst, lt_irrefl, lt_of_lt_of_le, mul-pos, arith, lit<, pow-add}
+use Rattle.std.specs.Option.{IsSome}
 use Rattle.integers.proofs.Integers.{factor_cancels}
 use Rattle.arithmetic.specs.Meaning.{Number}
 use Rattle.arithmetic.specs.Operations.{grain}
-use Rattle.scientific.specs.Forms.{size_of}
+use Rattle.scientific.specs.declared.number.Scientific.{Scientific}
+use Rattle.scientific.specs.Forms.{highest}
+use Rattle.scientific.specs.Numbers.{Formed}
 use Rattle.scientific.specs.Patterns.{meaning}
-use Rattle.scientific.proofs.OneForm.{some_ten, moved}
+use Rattle.scientific.specs.declared.precision.Precision.{Precision}
+use Rattle.scientific.proofs.Tens.{some_ten}
+use Rattle.scientific.proofs.NumberOf.{bound_of}
 use Rattle.scientific.proofs.TheRules.{rules}
 
 -- ten to the 70 in parts
@@ -26,23 +31,20 @@ some_U : (d : ℕ) → 0 < (meaning d).U
 unfolding meaning
 some_U d = mul-pos (lit< tt) (some_ten (d - 1))
 
-grain_is : (d k : ℕ) → 4 ≤ d → d ≤ 8 → k ≤ 192 → pos (k * 5 * 10 ^ (70 - d)) ≡ grain (meaning d) k
-grain_is d k h l f = factor_cancels (pos (k * 5 * 10 ^ (70 - d))) (grain (meaning d) k) (meaning d).U (some_U d) (times_U d k (omega arith) l ∙ sym ((rules d h l).grain_is_exact k f))
+module _ (p : Precision) (k : ℕ) (few : k ≤ 192) where
+  abbrev d : ℕ
+  d = p.digits
 
--- what a function that answers z ensures
-pub record Grain (d k : ℕ) (z : ℤ) : Type 0 where
-  pub answer : z ≡ grain (meaning d) k
-  pub number : Number (meaning d) z
+  grain_is : pos (k * 5 * 10 ^ (70 - d)) ≡ grain (meaning d) k
+  grain_is = factor_cancels (pos (k * 5 * 10 ^ (70 - d))) (grain (meaning d) k) (meaning d).U (some_U d) (times_U d k (omega arith) p.most ∙ sym ((rules p).grain_is_exact k few))
 
-grain_as : (d k : ℕ) (z : ℤ) → 4 ≤ d → d ≤ 8 → k ≤ 192 → z ≡ grain (meaning d) k → Grain d k z
-grain_as d k z h l f e = record { answer = e; number = rw e ((rules d h l).grain_is_number k f) }
+  -- it is not above 10^40
+  pub grain_some : (r : Option Scientific) → Formed (pos (k * 5 * 10 ^ (70 - d))) r → IsSome r
+  grain_some (Some x) f = refl
+  grain_some None f = absurd (lt_irrefl highest (lt_of_lt_of_le f (subst (λ (z : ℤ). nat_abs z ≤ highest) (sym grain_is) (bound_of d (grain (meaning d) k) ((rules p).grain_is_number k few)))))
 
-pub grain_none : (d k : ℕ) (z : ℤ) → 4 ≤ d → d ≤ 8 → k ≤ 192 → k * 5 ≡ 0 → z ≡ pos 0 → Grain d k z
-grain_none d k z h l f e n = grain_as d k z h l f (n ∙ ap pos (sym (ap (λ x. x * 10 ^ (70 - d)) e ∙ zero-mul (10 ^ (70 - d)))) ∙ grain_is d k h l f)
+  pub grain_answer : (z : ℤ) → z ≡ pos (k * 5 * 10 ^ (70 - d)) → z ≡ grain (meaning d) k
+  grain_answer z e = e ∙ grain_is
 
--- j zeros moved into the significand
-pub grain_moved : (d k j : ℕ) → 4 ≤ d → d ≤ 8 → k ≤ 192 → j ≤ 60 → Grain d k (pos (size_of (k * 5 * 10 ^ j) (70 - j - d)))
-grain_moved d k j h l f m = grain_as d k (pos (size_of (k * 5 * 10 ^ j) (70 - j - d))) h l f (ap pos (moved (k * 5) j (70 - j - d) (70 - d) (sum d j l m)) ∙ grain_is d k h l f)
-  where
-    sum : (d j : ℕ) → d ≤ 8 → j ≤ 60 → j + (70 - j - d) ≡ 70 - d
-    sum d j l m = omega arith
+  pub grain_number : (z : ℤ) → z ≡ pos (k * 5 * 10 ^ (70 - d)) → Number (meaning d) z
+  grain_number z e = rw (grain_answer z e) ((rules p).grain_is_number k few)

@@ -4,8 +4,7 @@ use native.Mathlib.Decide.{dec_le}
 use Rattle.integers.proofs.Naturals.{before}
 use Rattle.rounding.proofs.Rounded.{exponent_is, below_power}
 use Rattle.scientific.specs.Patterns.{zeros}
-use Rattle.scientific.proofs.Limits.{tens}
-use Rattle.scientific.proofs.OneForm.{some_ten}
+use Rattle.scientific.proofs.Tens.{tens, some_ten}
 
 pub record Least (d n k : ℕ) : Type 0 where
   pub under : n < 10 ^ d * 10 ^ k
@@ -29,7 +28,7 @@ no_more d n k k' a h = go (dec_le k k')
         clash : (n x y : ℕ) → x ≤ n → n < y → y ≤ x → ⊥
         clash n x y p q r = omega arith
 
-pub least_one : (d n k k' : ℕ) → Least d n k → Least d n k' → k ≡ k'
+least_one : (d n k k' : ℕ) → Least d n k → Least d n k' → k ≡ k'
 least_one d n k k' a b = omega (arith, no_more d n k k' a b.under, no_more d n k' k b a.under)
 
 pub zeros_is : (d : ℕ) (z : ℤ) (k : ℕ) → Least d (nat_abs z) k → zeros d z ≡ k

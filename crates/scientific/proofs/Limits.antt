@@ -2,13 +2,10 @@
 -- zeros stand behind it; so the zeros alone decide, but for 10^7 with 103 zeros, which is 10^110 itself. The limits are unfolded
 -- here and nowhere else, and only compared with numerals.
 use Rattle.std.proofs.Common.{◌≡◌, ℕ, suc, ◌*◌, ◌^◌, ◌<◌, ◌≤◌, Bool, true, false, ◌&&◌, ◌||◌, T, eqb, ltb, leb, ◌⊎◌, sym, refl, ap, ◌∙◌, subst, inl, inr, ⊎_elim, le_trans, lt_of_lt_of_le, le_of_lt, mul-le-mul_right, mul-le-mul, mul-le-mul_left, arith, lit<, lit≤, eqb→eq, ltb→lt, leb→le}
-use native.Mathlib.Nat.{pow-le-pow_right}
 use native.Mathlib.Decide.{dec_le}
 use Rattle.integers.proofs.Tests.{both, either, leb_yes, ltb_yes}
+use Rattle.scientific.proofs.Tens.{tens}
 use Rattle.scientific.specs.Forms.{size_of, is_full, is_small, lowest, highest}
-
-pub tens : (i j : ℕ) → i ≤ j → 10 ^ i ≤ 10 ^ j
-tens i j h = pow-le-pow_right (lit< tt) h
 
 -- ---- the one form
 pub full_is : (s z : ℕ) → is_full s z ≡ true → (s < 10 ^ 8) × ((z ≡ 0) ⊎ (10 ^ 7 ≤ s))

@@ -1,25 +1,23 @@
 -- How a number is written. With the least k for which its size is below 10^d · 10^k, the size is a whole multiple of 10^k, since
 -- some m · 10^e with m below 10^d and so an e of at least k is equal to it. The quotient M is below 10^d, and at least 10^(d−1)
 -- unless k is 0: this is the one form, and it is admitted as that number.
-use Rattle.std.proofs.Common.{◌≡◌, ℕ, ◌+◌, ◌-◌, ◌*◌, ◌^◌, ◌<◌, ◌≤◌, Bool, true, cond, ◌&&◌, ◌||◌, eqb, ltb, leb, ◌⊎◌, ℤ, pos, negsuc, ◌-ℤ◌, ◌*ℤ◌, neg_ℤ, nat_abs, sym, refl, ap, ◌∙◌, subst, inl, inr, zero-le, le_trans, lt_of_mul-lt-mul_right, mul-lt-mul_of_pos_right, mul-pos, zero-mul, le_of_mul-le-mul_right, arith, lit<, lit≤, pow-add}
+use Rattle.std.proofs.Common.{◌≡◌, ℕ, ◌+◌, ◌-◌, ◌*◌, ◌^◌, ◌<◌, ◌≤◌, Bool, true, cond, ◌&&◌, ◌||◌, eqb, ltb, leb, ◌⊎◌, ℤ, pos, ◌-ℤ◌, ◌*ℤ◌, nat_abs, sym, refl, ap, ◌∙◌, subst, inl, inr, zero-le, le_trans, lt_of_mul-lt-mul_right, mul-lt-mul_of_pos_right, mul-pos, zero-mul, le_of_mul-le-mul_right, arith, lit<, lit≤, pow-add}
 use native.Mathlib.Nat.{pow-succ', zero-div}
 use native.Mathlib.Decide.{dec_le, ℕ_discrete}
 use lib.Signed.{quot_z}
+use lib.IntN.{zero-*ℤ}
 use Rattle.std.proofs.lemmas.Int.{ints}
 use Rattle.std.proofs.lemmas.Bool.Decides.{nat_tests}
 use Rattle.integers.proofs.Integers.{abs_mul, quot_exact}
-use Rattle.integers.proofs.Ring.{ring, num, ◌⊗◌, ⊖◌}
 use Rattle.integers.proofs.Naturals.{before}
 use Rattle.integers.proofs.Tests.{eqb_no}
 use Rattle.rounding.specs.Digits.{Digits}
-use Rattle.rounding.specs.Value.{signed}
 use Rattle.rounding.proofs.Rounded.{H_is}
 use Rattle.arithmetic.specs.Meaning.{Number, number}
-use Rattle.scientific.specs.Forms.{size_of, highest}
+use Rattle.scientific.specs.Forms.{with_zeros, highest}
 use Rattle.scientific.specs.Patterns.{zeros, written, admission, reads, meaning}
-use Rattle.scientific.proofs.Limits.{tens}
-use Rattle.scientific.proofs.OneForm.{some_ten}
-use Rattle.scientific.proofs.Values.{signed_zero}
+use Rattle.scientific.proofs.Tens.{tens, some_ten}
+use Rattle.scientific.proofs.OneForm.{signed_multiple}
 use Rattle.scientific.proofs.LeastZeros.{Least, zeros_least, no_more}
 use Rattle.scientific.proofs.NumberOf.{bound_of}
 use Rattle.scientific.proofs.Meanings.{digits_of}
@@ -49,11 +47,6 @@ multiple d n k l g = (g.m * 10 ^ (g.e - k), g.is ∙ ap (λ x. g.m * x) split �
       where
         parts : (a b : ℕ) → a ≤ b → b ≡ a + (b - a)
         parts a b q = omega arith
-
--- z is a multiple of x where its size is
-signed_multiple : (z : ℤ) (x t : ℕ) → nat_abs z ≡ t * x → (w : ℤ) × (w *ℤ pos x ≡ z) × (nat_abs w ≡ t)
-signed_multiple (pos n) x t e = (pos t, ap pos (sym e), refl)
-signed_multiple (negsuc n) x t e = (neg_ℤ (pos t), ring ((⊖ num t) ⊗ num x) (⊖ num (t * x)) (omega arith) ∙ ap (λ y. neg_ℤ (pos y)) (sym e), omega (arith, ints))
 
 written_m : (d : ℕ) (z : ℤ) → (written d z).m ≡ quot_z z (pos (10 ^ zeros d z))
 unfolding written
@@ -114,8 +107,8 @@ written_zero : (d : ℕ) → written d (pos 0) ≡ record { m = pos 0; e = pos 0
 unfolding written
 written_zero d = ap (λ (x : ℕ). record { m = pos x; e = pos 0 }) (zero-div (10 ^ zeros d (pos 0)))
 
-pub written_none : (d : ℕ) (t : Bool) (s q : ℕ) → s ≡ 0 → record { m = pos 0; e = pos 0 } ≡ written d (signed t (size_of s q))
-written_none d t s q e = sym (ap (written d) (signed_zero t (s * 10 ^ q) (ap (λ x. x * 10 ^ q) e ∙ zero-mul (10 ^ q))) ∙ written_zero d)
+pub written_none : (d : ℕ) (s : ℤ) (q : ℕ) → s ≡ pos 0 → record { m = pos 0; e = pos 0 } ≡ written d (with_zeros s q)
+written_none d s q e = sym (ap (written d) (ap (λ (x : ℤ). with_zeros x q) e ∙ zero-*ℤ (pos (10 ^ q))) ∙ written_zero d)
 
 module _ (d : ℕ) (z : ℤ) (h : 1 ≤ d) (l : d ≤ 8) (N : Number (meaning d) z) where
   written_e : (nat_abs z ≡ 0 → ⊥) → (written d z).e ≡ pos (zeros d z) -ℤ pos 70

@@ -1,16 +1,17 @@
 -- Zeros behind a fraction stand behind what it is rounded to, where its whole part has d digits or more; and behind any whole
--- number, since one of fewer digits is left unchanged. And the rounding of a size with a sign.
-use Rattle.std.proofs.Common.{◌≡◌, ℕ, suc, ◌+◌, ◌-◌, ◌*◌, ◌^◌, ◌<◌, ◌≤◌, Bool, true, false, ◌⊎◌, pos, neg_ℤ, sym, refl, ap, ◌∙◌, subst, ⊎_elim, mul-le-mul_right, mul_assoc, mul-one, arith, lit≤}
+-- number, since one of fewer digits is left unchanged. The sign stays.
+use Rattle.std.proofs.Common.{◌≡◌, ℕ, suc, ◌+◌, ◌-◌, ◌*◌, ◌^◌, ◌<◌, ◌≤◌, ◌⊎◌, ℤ, pos, negsuc, ◌*ℤ◌, neg_ℤ, nat_abs, sym, refl, ap, ◌∙◌, subst, ⊎_elim, mul-le-mul_right, mul_assoc, mul-one, mul-pos, arith, lit≤}
 use native.Mathlib.Nat.{pow-succ'}
 use native.Mathlib.Decide.{ℕ_discrete}
 use Rattle.integers.proofs.Naturals.{cancel, before}
 use Rattle.rounding.specs.Radix.{rounded, rounding}
-use Rattle.rounding.specs.Value.{signed}
 use Rattle.rounding.proofs.Nearest.{Nearest}
 use Rattle.rounding.proofs.Rounded.{Rounds, rounds, one_rounds, stays, H_is}
 use Rattle.rounding.proofs.Signs.{odd}
-use Rattle.scientific.proofs.OneForm.{some_ten, joined}
-use Rattle.scientific.proofs.Counted.{ten}
+use Rattle.integers.proofs.Integers.{abs_mul, no_sign}
+use Rattle.integers.proofs.Ring.{ring, num, ◌⊗◌, ⊖◌}
+use Rattle.scientific.specs.Forms.{with_zeros}
+use Rattle.scientific.proofs.Tens.{some_ten, joined, ten}
 
 nearest_with : (n D m x : ℕ) → 0 < x → Nearest n D m → Nearest (n * x) (D * x) m
 nearest_with n D m x p a = record {
@@ -58,11 +59,11 @@ module _ (d : ℕ) (P : 1 ≤ d) where
     is_shifted : Rounds 10 d (n * 10 ^ k) den (rounded 10 d n den * 10 ^ k) → rounded 10 d (n * 10 ^ k) den ≡ rounded 10 d n den * 10 ^ k
     is_shifted b = one_rounds 10 d ten P (n * 10 ^ k) den (n * 10 ^ k) den _ _ D D refl (rounds 10 d ten P (n * 10 ^ k) den D) b
 
-    pub fraction_with : (k ≡ 0) ⊎ (den * 10 ^ (d - 1) ≤ n) → rounded 10 d (n * 10 ^ k) den ≡ rounded 10 d n den * 10 ^ k
+    fraction_with : (k ≡ 0) ⊎ (den * 10 ^ (d - 1) ≤ n) → rounded 10 d (n * 10 ^ k) den ≡ rounded 10 d n den * 10 ^ k
     fraction_with full = is_shifted (shifted (λ e. full))
 
   -- ---- whole numbers
-  pub whole_with : (n k : ℕ) → rounded 10 d (n * 10 ^ k) 1 ≡ rounded 10 d n 1 * 10 ^ k
+  whole_with : (n k : ℕ) → rounded 10 d (n * 10 ^ k) 1 ≡ rounded 10 d n 1 * 10 ^ k
   whole_with n k = go (ℕ_discrete b.e 0)
     where
       b : Rounds 10 d n 1 (rounded 10 d n 1)
@@ -78,12 +79,36 @@ module _ (d : ℕ) (P : 1 ≤ d) where
       go (yes z) = let h = few b.e z b.under in left k h ∙ ap (λ (x : ℕ). x * 10 ^ k) (sym (ap (λ (x : ℕ). rounded 10 d x 1) (sym (mul-one n)) ∙ left 0 h ∙ mul-one n))
       go (no z) = is_shifted n 1 k (lit≤ tt) (shifted n 1 k (lit≤ tt) (λ e. absurd (z e)))
 
-  -- ---- with a sign: equal fractions, one as a multiple of 1/Q
+  -- ---- with a sign
   module _ (Q : ℕ) (scale : 1 ≤ Q) where
-    same : (n D m den : ℕ) → 0 < D → 0 < den → n * Q * den ≡ m * D → rounded 10 d (n * Q) D ≡ rounded 10 d m den
-    same n D m den h k e = one_rounds 10 d ten P (n * Q) D m den _ _ h k e (rounds 10 d ten P (n * Q) D h) (rounds 10 d ten P m den k)
+    same : (n m D den : ℕ) → 0 < D → 0 < den → n * (Q * den) ≡ m * D → rounded 10 d (n * Q) D ≡ rounded 10 d (m * 1) den
+    same n m D den h k e = one_rounds 10 d ten P (n * Q) D (m * 1) den _ _ h k (plain n m e) (rounds 10 d ten P (n * Q) D h) (rounds 10 d ten P (m * 1) den k)
+      where
+        plain : (n m : ℕ) → n * (Q * den) ≡ m * D → n * Q * den ≡ m * 1 * D
+        plain n m e = omega arith
 
-    pub signed_rounding : (t : Bool) (n D m den : ℕ) → 0 < D → 0 < den → n * Q * den ≡ m * D → rounding 10 d Q (signed t n) D ≡ signed t (rounded 10 d m den)
+    -- equal fractions, one as a multiple of 1/Q and one as a whole number
+    pub rescaled : (z n : ℤ) (D den : ℕ) → 0 < D → 0 < den → z *ℤ pos (Q * den) ≡ n *ℤ pos D → rounding 10 d Q z D ≡ rounding 10 d 1 n den
     unfolding rounding
-    signed_rounding false n D m den h k e = ap pos (same n D m den h k e)
-    signed_rounding true n D m den h k e = odd 10 d Q ten P scale (pos n) D h ∙ ap (λ (x : ℕ). neg_ℤ (pos x)) (same n D m den h k e)
+    rescaled (pos z) (pos n) D den h k e = ap pos (same z n D den h k (ap nat_abs e))
+    rescaled (negsuc z) (negsuc n) D den h k e = ap (λ (x : ℕ). neg_ℤ (pos x)) (same (suc z) (suc n) D den h k (sym (abs_mul (negsuc z) (pos (Q * den))) ∙ ap nat_abs e ∙ abs_mul (negsuc n) (pos D)))
+    rescaled (pos z) (negsuc n) D den h k e = absurd (no_sign (z * (Q * den)) (suc n * D) (mul-pos (omega arith) h) e)
+    rescaled (negsuc z) (pos n) D den h k e = absurd (no_sign (n * D) (suc z * (Q * den)) (mul-pos (omega arith) (mul-pos scale k)) (sym e))
+
+  -- zeros stand behind the rounding where they stand behind the rounding of the size
+  behind : (n : ℤ) (den k : ℕ) → 0 < den → rounded 10 d (nat_abs n * 10 ^ k) den ≡ rounded 10 d (nat_abs n) den * 10 ^ k → rounding 10 d 1 (with_zeros n k) den ≡ with_zeros (rounding 10 d 1 n den) k
+  unfolding rounding
+  behind (pos n) den k D e = ap pos (plain n e)
+    where
+      plain : (n : ℕ) → rounded 10 d (n * 10 ^ k) den ≡ rounded 10 d n den * 10 ^ k → rounded 10 d (n * 10 ^ k * 1) den ≡ rounded 10 d (n * 1) den * 10 ^ k
+      plain n e = rw (mul-one (n * 10 ^ k), mul-one n) e
+  behind (negsuc n) den k D e = odd 10 d 1 ten P (lit≤ tt) (pos (suc n * 10 ^ k)) den D ∙ ap (λ (x : ℕ). neg_ℤ (pos x)) (plain (suc n) e) ∙ ring (⊖ num (rounded 10 d (suc n * 1) den * 10 ^ k)) ((⊖ num (rounded 10 d (suc n * 1) den)) ⊗ num (10 ^ k)) (omega arith)
+    where
+      plain : (n : ℕ) → rounded 10 d (n * 10 ^ k) den ≡ rounded 10 d n den * 10 ^ k → rounded 10 d (n * 10 ^ k * 1) den ≡ rounded 10 d (n * 1) den * 10 ^ k
+      plain n e = rw (mul-one (n * 10 ^ k), mul-one n) e
+
+  pub fraction_behind : (n : ℤ) (den k : ℕ) → 0 < den → (k ≡ 0) ⊎ (den * 10 ^ (d - 1) ≤ nat_abs n) → rounding 10 d 1 (with_zeros n k) den ≡ with_zeros (rounding 10 d 1 n den) k
+  fraction_behind n den k D full = behind n den k D (fraction_with (nat_abs n) den k D full)
+
+  pub whole_behind : (n : ℤ) (k : ℕ) → rounding 10 d 1 (with_zeros n k) 1 ≡ with_zeros (rounding 10 d 1 n 1) k
+  whole_behind n k = behind n 1 k (lit≤ tt) (whole_with (nat_abs n) k)

@@ -1,77 +1,73 @@
--- Sums of two numbers a and b, where a has no fewer zeros. Within ten zeros the code works out the exact sum, without the zeros of
--- b, which stand behind what it is rounded to; and what the rounding leaves is a number, as the error of every sum of numbers.
--- Farther apart, a absorbs b.
-use Rattle.std.proofs.Common.{◌≡◌, ℕ, ◌+◌, ◌-◌, ◌^◌, ◌<◌, ◌≤◌, Bool, true, false, ℤ, ◌+ℤ◌, sym, refl, ap, ◌∙◌, subst, ⊎_elim, mul-one, arith, lit≤}
-use mathlib.Core.Bool.{beq}
-use Rattle.integers.proofs.Naturals.{dist}
+-- Sums of two numbers a and b, where a has at least as many zeros behind it. Within ten zeros the exact sum, without the zeros of b,
+-- is rounded, and these zeros stand behind both parts. Farther apart, a has eight digits and absorbs b.
+use Rattle.std.proofs.Common.{◌≡◌, ℕ, suc, ◌+◌, ◌-◌, ◌^◌, ◌<◌, ◌≤◌, ℤ, pos, negsuc, ◌+ℤ◌, ◌-ℤ◌, neg_ℤ, nat_abs, Some, sym, ap, ◌∙◌, subst, ⊎_elim, mul-one, arith, lit≤}
+use Rattle.std.proofs.lemmas.Int.{ints}
+use Rattle.integers.proofs.Ring.{ring, at, ◌⊕◌, ⊖◌}
 use Rattle.rounding.specs.Digits.{Digits}
-use Rattle.rounding.specs.Radix.{rounded}
-use Rattle.rounding.specs.Value.{signed}
-use Rattle.rounding.proofs.Rounded.{rounds}
-use Rattle.rounding.proofs.Parts.{sum_part}
+use Rattle.rounding.specs.Radix.{rounded, rounding}
+use Rattle.rounding.proofs.Signs.{odd}
 use Rattle.arithmetic.specs.Meaning.{Number}
 use Rattle.scientific.specs.declared.number.Scientific.{Scientific}
-use Rattle.scientific.specs.Forms.{size_of}
+use Rattle.scientific.specs.declared.precision.Precision.{Precision}
+use Rattle.scientific.specs.Forms.{size_of, with_zeros}
 use Rattle.scientific.specs.Numbers.{units}
 use Rattle.scientific.specs.Patterns.{meaning}
-use Rattle.scientific.proofs.OneForm.{moved}
+use Rattle.scientific.specs.Splits.{SplitFormed, rounded_to}
+use Rattle.scientific.proofs.Tens.{ten}
 use Rattle.scientific.proofs.Limits.{full_is}
-use Rattle.scientific.proofs.Counted.{ten}
-use Rattle.scientific.proofs.Values.{size_signed, same_sign, no_larger, sum_size, sum_with}
-use Rattle.scientific.proofs.ErrorPart.{digits_off}
+use Rattle.scientific.proofs.Values.{size_with, with_sum, with_more}
 use Rattle.scientific.proofs.Absorbed.{absorbs_more, absorbs_less, no_more}
-use Rattle.scientific.proofs.Meanings.{digits_of, sum_rounding}
+use Rattle.scientific.proofs.Meanings.{digits_of}
 
-module _ (d : ℕ) (P : 4 ≤ d) (few : d ≤ 8) (a b : Scientific) (na : Number (meaning d) (units a)) (nb : Number (meaning d) (units b)) where
-  some : 1 ≤ d
-  some = omega arith
+-- ---- within ten zeros
+pub near : (a b : Scientific) (gap : ℕ) → gap + b.zeros ≡ a.zeros → with_zeros (with_zeros a.significand gap +ℤ b.significand) b.zeros ≡ units a +ℤ units b
+near a b gap e = with_sum (with_zeros a.significand gap) b.significand b.zeros ∙ ap (λ (z : ℤ). z +ℤ units b) (with_more a.significand gap b.zeros a.zeros e)
 
-  abbrev S : ℕ
-  S = size_of a.significand a.zeros
+-- ---- farther apart
+module _ (d : ℕ) (P : 1 ≤ d) where
+  of_pos : (m : ℕ) → rounded_to d (pos m) ≡ pos (rounded 10 d m 1)
+  unfolding rounding
+  of_pos m = ap (λ (x : ℕ). pos (rounded 10 d x 1)) (mul-one m)
 
-  abbrev L : ℕ
-  L = size_of b.significand b.zeros
+  of_neg : (m : ℕ) → rounded_to d (neg_ℤ (pos m)) ≡ neg_ℤ (pos (rounded 10 d m 1))
+  of_neg m = odd 10 d 1 ten P (lit≤ tt) (pos m) 1 (lit≤ tt) ∙ ap neg_ℤ (of_pos m)
 
-  digits_a : Digits 10 d S
-  digits_a = subst (Digits 10 d) (size_signed a.negative S) (digits_of d some (units a) na)
+  -- what sizes absorb, numbers do
+  absorbed : (x y : ℤ) → nat_abs y ≤ nat_abs x → rounded 10 d (nat_abs x + nat_abs y) 1 ≡ nat_abs x → rounded 10 d (nat_abs x - nat_abs y) 1 ≡ nat_abs x → rounded_to d (x +ℤ y) ≡ x
+  absorbed (pos a) (pos b) l more less = of_pos (a + b) ∙ ap pos more
+  absorbed (pos a) (negsuc b) l more less = ap (rounded_to d) (plain a (suc b) l) ∙ of_pos (a - suc b) ∙ ap pos less
+    where
+      plain : (a b : ℕ) → b ≤ a → pos a +ℤ neg_ℤ (pos b) ≡ pos (a - b)
+      plain a b l = omega (arith, ints)
+  absorbed (negsuc a) (pos b) l more less = ap (rounded_to d) (plain (suc a) b l) ∙ of_neg (suc a - b) ∙ ap (λ (x : ℕ). neg_ℤ (pos x)) less
+    where
+      plain : (a b : ℕ) → b ≤ a → neg_ℤ (pos a) +ℤ pos b ≡ neg_ℤ (pos (a - b))
+      plain a b l = omega (arith, ints)
+  absorbed (negsuc a) (negsuc b) l more less = ap (rounded_to d) (plain (suc a) (suc b)) ∙ of_neg (suc a + suc b) ∙ ap (λ (x : ℕ). neg_ℤ (pos x)) more
+    where
+      plain : (a b : ℕ) → neg_ℤ (pos a) +ℤ neg_ℤ (pos b) ≡ neg_ℤ (pos (a + b))
+      plain a b = omega (arith, ints)
 
-  digits_b : Digits 10 d L
-  digits_b = subst (Digits 10 d) (size_signed b.negative L) (digits_of d some (units b) nb)
+pub far : (p : Precision) (a b : Scientific) → Number (meaning p.digits) (units a) → 10 < a.zeros - b.zeros → SplitFormed p.digits (units a +ℤ units b) (Some (a, b))
+far p a b na h = (sym main, ring (at (units b)) ((at (units a) ⊕ at (units b)) ⊕ (⊖ at (units a))) (omega arith) ∙ ap (λ (z : ℤ). (units a +ℤ units b) -ℤ z) (sym main))
+  where
+    P : 1 ≤ p.digits
+    P = omega (arith, p.least)
 
-  -- ---- within ten zeros
-  module _ (r : Bool) (x gap : ℕ) (g : gap + b.zeros ≡ a.zeros) (e : signed r x ≡ signed a.negative (size_of a.significand gap) +ℤ signed b.negative b.significand) where
-    pub exact : units a +ℤ units b ≡ signed r (size_of x b.zeros)
-    exact = ap (λ (n : ℕ). signed a.negative n +ℤ units b) (sym (moved a.significand gap b.zeros a.zeros g))
-        ∙ sum_with r a.negative b.negative x (size_of a.significand gap) b.significand (10 ^ b.zeros) e
+    number : Digits 10 p.digits (size_of (nat_abs a.significand) a.zeros)
+    number = subst (Digits 10 p.digits) (size_with a.significand a.zeros) (digits_of p.digits P (units a) na)
 
-    pub near_sum : signed r (size_of (rounded 10 d x 1) b.zeros) ≡ (meaning d).rounding (units a +ℤ units b) (meaning d).Q
-    near_sum = sym (sum_rounding d some (units a +ℤ units b) r x b.zeros exact)
+    long : 10 ^ 7 ≤ nat_abs a.significand
+    long = ⊎_elim (λ e. absurd (omega arith)) (λ h. h) (full_is (nat_abs a.significand) a.zeros a.full).1
 
-    pub part : Digits 10 d (dist x (rounded 10 d x 1))
-    part = sum_part 10 d ten some x (rounded 10 d x 1) (size_of a.significand gap) b.significand (rounds 10 d ten some x 1 (lit≤ tt))
-        (digits_off d (size_of a.significand gap) b.zeros (subst (Digits 10 d) (sym (moved a.significand gap b.zeros a.zeros g)) digits_a)) (digits_off d b.significand b.zeros digits_b)
-        (sum_size r a.negative b.negative x (size_of a.significand gap) b.significand e)
-
-  -- ---- farther apart
-  module _ (far : 10 < a.zeros - b.zeros) where
-    long : 10 ^ 7 ≤ a.significand
-    long = ⊎_elim (λ e. absurd (omega arith)) (λ h. h) (full_is a.significand a.zeros a.full).1
-
-    short : b.significand < 10 ^ 8
-    short = (full_is b.significand b.zeros b.full).0
+    short : nat_abs b.significand < 10 ^ 8
+    short = (full_is (nat_abs b.significand) b.zeros b.full).0
 
     apart : b.zeros + 10 < a.zeros
     apart = omega arith
 
-    -- a whole number of units, as one without zeros behind it
-    plain : (z : ℤ) (t : Bool) (n : ℕ) → z ≡ signed t n → rounded 10 d n 1 ≡ S → (meaning d).rounding z (meaning d).Q ≡ signed t S
-    plain z t n e f = sum_rounding d some z t n 0 (e ∙ ap (signed t) (sym (mul-one n))) ∙ ap (signed t) (mul-one (rounded 10 d n 1) ∙ f)
-
-    pub far_sum : units a ≡ (meaning d).rounding (units a +ℤ units b) (meaning d).Q
-    far_sum = sym (go (beq a.negative b.negative) refl)
-      where
-        go : (t : Bool) → beq a.negative b.negative ≡ t → (meaning d).rounding (units a +ℤ units b) (meaning d).Q ≡ signed a.negative S
-        go true e = plain (units a +ℤ units b) a.negative (S + L) (sym (same_sign a.negative b.negative S L e)) (absorbs_more d a.significand a.zeros b.significand b.zeros some few digits_a long short apart)
-        go false e = plain (units a +ℤ units b) a.negative (S - L)
-            (sym (no_larger a.negative b.negative S L e (no_more d a.significand a.zeros b.significand b.zeros some few digits_a long short apart)))
-            (absorbs_less d a.significand a.zeros b.significand b.zeros some few digits_a long short apart)
+    main : rounded_to p.digits (units a +ℤ units b) ≡ units a
+    main = absorbed p.digits P (units a) (units b)
+        (rw (size_with a.significand a.zeros, size_with b.significand b.zeros) (no_more p.digits (nat_abs a.significand) a.zeros (nat_abs b.significand) b.zeros P p.most number long short apart))
+        (rw (size_with a.significand a.zeros, size_with b.significand b.zeros) (absorbs_more p.digits (nat_abs a.significand) a.zeros (nat_abs b.significand) b.zeros P p.most number long short apart))
+        (rw (size_with a.significand a.zeros, size_with b.significand b.zeros) (absorbs_less p.digits (nat_abs a.significand) a.zeros (nat_abs b.significand) b.zeros P p.most number long short apart))

@@ -1,8 +1,11 @@
--- The numbers as the code holds them: a sign, a significand and a count of zeros behind it, in units of 10^−70, the smallest
--- value above 0.
-use Rattle.std.specs.Prelude.{ℕ, ◌-◌, ◌*◌, ◌^◌, Bool, cond, ◌&&◌, ◌||◌, ◌==◌, nat_le, nat_lt}
+-- The numbers as the code holds them: a significand and a count of zeros behind it, in units of 10^−70, the smallest value above 0.
+use Rattle.std.specs.Prelude.{ℕ, ◌-◌, ◌*◌, ◌^◌, Bool, cond, ◌&&◌, ◌||◌, ℤ, pos, ◌*ℤ◌, ◌==◌, nat_le, nat_lt}
 
--- a significand with zeros behind it
+-- n with k zeros behind it
+abbrev pub with_zeros : ℤ → ℕ → ℤ
+with_zeros n k = n *ℤ pos (10 ^ k)
+
+-- the size of a significand with zeros behind it
 abbrev pub size_of : ℕ → ℕ → ℕ
 size_of significand zeros = significand * 10 ^ zeros
 

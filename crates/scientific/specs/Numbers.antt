@@ -1,12 +1,11 @@
 -- The number that a decimal of the code stands for, in units of 10^−70.
 use Rattle.std.specs.Prelude.{◌≡◌, ℕ, ◌-◌, ◌<◌, ◌≤◌, false, ℤ, pos, negsuc, ◌-ℤ◌, Some, None, Option, unsigned_abs}
-use Rattle.rounding.specs.Value.{signed}
-use Rattle.scientific.specs.Forms.{size_of, highest}
+use Rattle.scientific.specs.Forms.{with_zeros, highest}
 use Rattle.scientific.specs.Patterns.{from_to}
 use Rattle.scientific.specs.declared.number.Scientific.{Scientific}
 
 abbrev pub units : Scientific → ℤ
-units n = signed n.negative (size_of n.significand n.zeros)
+units n = with_zeros n.significand n.zeros
 
 -- z units as a number; none exactly above 10^40
 abbrev pub Formed : ℤ → Option Scientific → Type 0

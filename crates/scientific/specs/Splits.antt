@@ -1,16 +1,19 @@
 -- A rounded result and its error part as numbers.
-use Rattle.std.specs.Prelude.{◌≡◌, ℕ, ◌+◌, ◌-◌, ◌<◌, ℤ, ◌+ℤ◌, Some, None, Option, unsigned_abs}
-use Rattle.rounding.specs.Digits.{Digits}
-use Rattle.rounding.specs.Radix.{rounded}
+use Rattle.std.specs.Prelude.{◌≡◌, ℕ, ◌<◌, ℤ, ◌-ℤ◌, Some, None, Option, unsigned_abs}
+use Rattle.rounding.specs.Radix.{rounding}
 use Rattle.scientific.specs.Forms.{highest}
 use Rattle.scientific.specs.Numbers.{units}
 use Rattle.scientific.specs.declared.number.Scientific.{Scientific}
 
--- how far a whole number lies from its rounding to d digits
-abbrev pub error_size : ℕ → ℕ → ℕ
-error_size d n = (n - rounded 10 d n 1) + (rounded 10 d n 1 - n)
+-- a whole number rounded to d digits
+abbrev pub rounded_to : ℕ → ℤ → ℤ
+rounded_to d z = rounding 10 d 1 z 1
 
--- z units, and what they lack of the exact ones, which has at most d digits; none exactly where z is above 10^40
-abbrev pub SplitFormed : ℕ → ℤ → ℤ → Option (Scientific × Scientific) → Type 0
-SplitFormed d z exact (Some p) = (units p.0 ≡ z) × (units p.0 +ℤ units p.1 ≡ exact) × Digits 10 d (unsigned_abs (units p.1))
-SplitFormed d z exact None = highest < unsigned_abs z
+-- its error part: what the rounded one lacks of it
+abbrev pub error : ℕ → ℤ → ℤ
+error d z = z -ℤ rounded_to d z
+
+-- z units rounded, and the error part; none exactly where the rounded ones are above 10^40
+abbrev pub SplitFormed : ℕ → ℤ → Option (Scientific × Scientific) → Type 0
+SplitFormed d z (Some p) = (units p.0 ≡ rounded_to d z) × (units p.1 ≡ error d z)
+SplitFormed d z None = highest < unsigned_abs (rounded_to d z)

@@ -1,64 +1,47 @@
 // The one form of a number.
-ghost use Rattle.std.specs.Prelude.{◌≡◌, ◌^◌, ◌<◌, ◌≤◌, true, false, unsigned_abs};
+ghost use Rattle.std.specs.Prelude.{◌≡◌, ◌<◌, ◌≤◌, true, nat_le, unsigned_abs};
 ghost use Rattle.rounding.specs.Digits.{Digits};
-ghost use Rattle.rounding.specs.Value.{signed};
-ghost use Rattle.scientific.specs.Forms.{size_of, is_full, lowest};
+ghost use Rattle.scientific.specs.Forms.{with_zeros, is_full, lowest};
 ghost use Rattle.scientific.specs.Numbers.{units, Formed};
 
-use crate::number::Scientific;
+use crate::number::{LEAST_SIGNIFICAND, Scientific};
 use crate::tables::{digits, power};
 
-// The most zeros behind a significand of eight digits, and the least such significand: 10^7 with 103 zeros are 10^110 units.
+// The most zeros behind a significand of eight digits: 10^7 with 103 zeros are 10^110 units.
 const MOST_ZEROS: u32 = 103;
-
-const LEAST_SIGNIFICAND: u32 = 10_000_000;
 
 // The fewest zeros of a number that is not below 10^-40 in size: 10^7 with 23 zeros are 10^30 units.
 const LEAST_ZEROS: u8 = 23;
 
-// A significand below 10^8 with zeros behind it, as a number; none above 10^40.
-pub fn full_form(negative: bool, significand: u32, zeros: u32) -> Option<Scientific>
-    requires short { significand < 10 ^ 8 }
-    requires few { zeros ≤ 300 }
-    ensures { Formed (signed negative (size_of significand zeros)) result }
-{
-    exact_form(negative, significand as u64, zeros)
-}
-
 // At most eight digits, followed by zeros within n or behind it, as a number; none above 10^40.
-pub fn exact_form(negative: bool, n: u64, zeros: u32) -> Option<Scientific>
-    requires short { Digits 10 8 n }
+pub fn exact_form(n: i64, zeros: u32) -> Option<Scientific>
+    requires short { Digits 10 8 (unsigned_abs n) }
     requires few { zeros ≤ 600 }
-    ensures { Formed (signed negative (size_of n zeros)) result }
+    ensures { Formed (with_zeros n zeros) result }
 {
     if n == 0 {
-        return not_above(negative, 0, 0);
+        return not_above(0, 0);
     }
-    let count = digits(n);
+    let count = digits(n.unsigned_abs());
     if count > 8 {
         let excess = count - 8;
-        return not_above(negative, (n / power(excess)) as u32, zeros + excess);
+        return not_above((n / power(excess) as i64) as i32, zeros + excess);
     }
-    let room = 8 - count;
-    if zeros <= room {
-        return not_above(negative, (n * power(zeros)) as u32, 0);
-    }
-    not_above(negative, (n * power(room)) as u32, zeros - room)
+    let room = zeros.min(8 - count);
+    not_above((n * power(room) as i64) as i32, zeros - room)
 }
 
 // A significand and zeros in the one form, as a number; none above 10^40.
-fn not_above(negative: bool, significand: u32, zeros: u32) -> Option<Scientific>
-    requires { is_full significand zeros ≡ true }
-    ensures { Formed (signed negative (size_of significand zeros)) result }
+fn not_above(significand: i32, zeros: u32) -> Option<Scientific>
+    requires { is_full (unsigned_abs significand) zeros ≡ true }
+    ensures { Formed (with_zeros significand zeros) result }
 {
-    if zeros > MOST_ZEROS {
-        return None;
-    }
-    if zeros == MOST_ZEROS && significand > LEAST_SIGNIFICAND {
+    if zeros > MOST_ZEROS
+        || (zeros == MOST_ZEROS && significand.unsigned_abs() > LEAST_SIGNIFICAND)
+    {
         return None;
     }
     Some(Scientific {
-        negative,
         significand,
         zeros: zeros as u8,
     })
@@ -66,8 +49,7 @@ fn not_above(negative: bool, significand: u32, zeros: u32) -> Option<Scientific>
 
 // Is the number at least 10^-40 in size?
 pub fn not_below(x: Scientific) -> bool
-    ensures yes { result ≡ true → lowest ≤ unsigned_abs (units x) }
-    ensures no { result ≡ false → unsigned_abs (units x) < lowest }
+    ensures { result ≡ nat_le lowest (unsigned_abs (units x)) }
 {
     LEAST_ZEROS <= x.zeros
 }

@@ -10,11 +10,11 @@ mod forms;
 pub mod lifting;
 mod nearest;
 pub mod number;
+pub mod precision;
 pub mod products;
 mod rounded;
 pub mod sums;
 mod tables;
-mod whole;
 pub mod written;
 
 // Where another number of d digits is as near to a fraction as its rounding, the rounding is written with an even M.

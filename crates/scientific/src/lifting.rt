@@ -1,4 +1,4 @@
-// Lifts, by the unit roundoff u = 1 / (2 × 10^(d-1)).
+// Lifts, by the unit roundoff of d digits, u = 1 / (2 × 10^(d-1)).
 ghost use Rattle.std.specs.Prelude.{◌≡◌, ◌-◌, ◌*◌, ◌^◌, ◌≤◌};
 ghost use Rattle.arithmetic.specs.Meaning.{Number};
 ghost use Rattle.arithmetic.specs.Operations.{lift as lifted};
@@ -9,33 +9,29 @@ ghost use Rattle.scientific.specs.Numbers.{units};
 use crate::forms::{exact_form, not_below};
 use crate::nearest::round_fraction;
 use crate::number::Scientific;
+use crate::precision::Precision;
 use crate::tables::power;
 
 // a lifted by k: a / (1 - k u), rounded once. The zeros of a stay behind what its significand is lifted to.
-pub fn lift(a: Scientific, k: u8, d: u8) -> Option<Scientific>
-    requires least { 4 ≤ d }
-    requires most { d ≤ 8 }
+pub fn lift(a: Scientific, k: u8, p: Precision) -> Option<Scientific>
     requires few { k ≤ 192 }
-    requires operand { Number (meaning d) (units a) }
-    ensures answer { valued units result ≡ lifted (meaning d) (units a) k }
-    ensures number { Gives (meaning d) units result }
+    requires operand { Number (meaning p.digits) (units a) }
+    ensures answer { valued units result ≡ lifted (meaning p.digits) (units a) k }
+    ensures number { Gives (meaning p.digits) units result }
 {
     if a.significand == 0 {
         return Some(a);
     }
-    let whole = roundoffs_in_one(d);
-    let r = round_fraction(a.significand as u64 * whole, whole - k as u64, d);
-    let x = exact_form(a.negative, r.significand, r.zeros + a.zeros as u32)?;
-    if not_below(x) { Some(x) } else { None }
+    let whole = roundoffs_in_one(p);
+    let r = round_fraction(a.significand as i64 * whole as i64, whole - k as u64, p);
+    exact_form(r.significand, r.zeros + a.zeros as u32).filter(|x| not_below(*x))
 }
 
 // How many u make 1.
-fn roundoffs_in_one(d: u8) -> u64
-    requires least { 4 ≤ d }
-    requires most { d ≤ 8 }
-    ensures value { result ≡ 2 * 10 ^ (d - 1) }
+fn roundoffs_in_one(p: Precision) -> u64
+    ensures value { result ≡ 2 * 10 ^ (p.digits - 1) }
     ensures many { 2000 ≤ result }
     ensures few { result ≤ 20000000 }
 {
-    2 * power(d as u32 - 1)
+    2 * power(p.digits as u32 - 1)
 }

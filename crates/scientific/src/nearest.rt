@@ -1,55 +1,30 @@
-// Rounding to d digits: to nearest, ties to the even significand.
-ghost use Rattle.std.specs.Prelude.{◌≡◌, ◌*◌, ◌^◌, ◌<◌, ◌≤◌};
-ghost use Rattle.rounding.specs.Radix.{nearest as nearest_whole, rounded};
+// Rounding to so many digits: to nearest, ties to the even significand.
+ghost use Rattle.std.specs.Prelude.{◌≡◌, ◌^◌, ◌<◌, ◌≤◌, unsigned_abs};
+ghost use Rattle.rounding.specs.Radix.{nearest as nearest_whole, rounding};
+ghost use Rattle.scientific.specs.Forms.{with_zeros};
 
+use crate::precision::Precision;
 use crate::tables::{digits, power};
 
-// What was rounded: a significand with zeros behind it. Rounding up may give the significand 10^d.
+// What was rounded to d digits: a significand with zeros behind it. Rounding up may give the significand 10^d.
 #[derive(Clone, Copy)]
 pub(crate) struct Rounded {
-    pub(crate) significand: u64,
+    pub(crate) significand: i64,
     pub(crate) zeros: u32,
 }
 
-// n rounded to d digits.
-pub fn round(n: u64, d: u8) -> Rounded
-    requires { 1 ≤ d }
-    ensures value { result.significand * 10 ^ result.zeros ≡ rounded 10 d n 1 }
-    ensures short { result.significand ≤ 10 ^ d }
-    ensures few { result.zeros ≤ 19 }
+// n / divisor rounded to as many digits as p has. There are as many zeros as its whole part has digits past those.
+pub fn round_fraction(n: i64, divisor: u64, p: Precision) -> Rounded
+    requires { 0 < divisor }
+    ensures value { with_zeros result.significand result.zeros ≡ rounding 10 p.digits 1 n divisor }
+    ensures short { unsigned_abs result.significand ≤ 10 ^ p.digits }
+    ensures few { result.zeros ≤ 15 }
 {
-    let count = digits(n);
-    if count <= d as u32 {
-        return Rounded {
-            significand: n,
-            zeros: 0,
-        };
-    }
-    let zeros = count - d as u32;
+    let size = n.unsigned_abs();
+    let zeros = digits(size / divisor).saturating_sub(p.digits as u32);
+    let significand = nearest(size, divisor * power(zeros)) as i64;
     Rounded {
-        significand: nearest(n, power(zeros)),
-        zeros,
-    }
-}
-
-// n / divisor rounded to d digits.
-pub fn round_fraction(n: u64, divisor: u64, d: u8) -> Rounded
-    requires some { 1 ≤ d }
-    requires divides { 0 < divisor }
-    ensures value { result.significand * 10 ^ result.zeros ≡ rounded 10 d n divisor }
-    ensures short { result.significand ≤ 10 ^ d }
-    ensures few { result.zeros ≤ 19 }
-{
-    let count = digits(n / divisor);
-    if count <= d as u32 {
-        return Rounded {
-            significand: nearest(n, divisor),
-            zeros: 0,
-        };
-    }
-    let zeros = count - d as u32;
-    Rounded {
-        significand: nearest(n, divisor * power(zeros)),
+        significand: if n < 0 { -significand } else { significand },
         zeros,
     }
 }
@@ -62,11 +37,9 @@ fn nearest(n: u64, divisor: u64) -> u64
     let quotient = n / divisor;
     let rest = n % divisor;
     let missing = divisor - rest;
-    if missing < rest {
-        return quotient + 1;
+    if missing < rest || (missing == rest && quotient % 2 == 1) {
+        quotient + 1
+    } else {
+        quotient
     }
-    if rest == missing && quotient % 2 == 1 {
-        return quotient + 1;
-    }
-    quotient
 }

@@ -1,18 +1,19 @@
 -- At order k: nothing was refused above it, and the numbers carried over are those of cell k.
 use Rattle.std.proofs.Common.{◌≡◌, Result}
+use Rattle.arithmetic.specs.Setting.{Stays}
 use Rattle.coefficients.specs.Row.{cell, row_after}
 use Rattle.row.specs.declared.cell.OutOfRange.{OutOfRange}
 use Rattle.row.specs.Reading.{values, readings, AreNumbers}
-use Rattle.row.specs.Passing.{Tells}
+use Rattle.row.specs.Answers.{Tells}
 use Rattle.row.proofs.try_orders.Given as goal
 
-abbrev pub invariant-loop-j : goal.invariant-loop-j
-invariant-loop-j g l =
+abbrev pub invariant-loop-order : goal.invariant-loop-order
+invariant-loop-order g l =
     let st = g.A.Arithmetic.setting l.initial.arith in
     let after = row_after st.meaning (g.A.Arithmetic.value l.x) (readings st l.row) in
     record {
-      told : (r : Result (Unit {0}) OutOfRange) → Tells r (after l.j-counter) → Tells r (after l.n);
-      reads : values g.A.Arithmetic.value l.old ≡ cell (readings st l.row) l.j-counter;
+      told : (r : Result (Unit {0}) OutOfRange) → Tells r (after l.order-counter) → Tells r (after l.n);
+      reads : values g.A.Arithmetic.value l.old ≡ cell (readings st l.row) l.order-counter;
       numbers : AreNumbers st.meaning g.A.Arithmetic.value l.old;
-      same : g.A.Arithmetic.setting l.arith ≡ st;
+      arith : Stays g.A.Arithmetic.setting g.A.Arithmetic.lawful l.initial.arith l.arith;
     }

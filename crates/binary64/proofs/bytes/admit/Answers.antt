@@ -4,5 +4,5 @@ use Rattle.binary64.specs.Patterns.{admission}
 use Rattle.binary64.specs.TheRules.{admit_is}
 use Rattle.binary64.proofs.bytes.admit.Goals as goal
 
-pub returns : goal.returns
-returns c = record { answer = c.checked.ensures.answer ∙ ap admission c.from_be_bytes.ensures ∙ sym (admit_is _); number = c.checked.ensures.number }
+pub returns-clause-answer : goal.returns-clause-answer
+returns-clause-answer c = c.checked.ensures.answer ∙ ap admission c.from_be_bytes.ensures ∙ sym (admit_is _)

@@ -5,11 +5,11 @@ use Rattle.binary64.specs.Fields.{no_nan_bits, bits_fine, bits_yes, bits_large, 
 use Rattle.std.proofs.Common.{rules}
 use Rattle.binary64.proofs.bytes.checked.Goals as goal
 
-pub returns-then-m-ge-INFINITY_BITS : goal.returns-then-m-ge-INFINITY_BITS
-returns-then-m-ge-INFINITY_BITS c = record { answer = bits_infinite c.args.bits (search rules); number = tt }
+pub returns-then-m-ge-INFINITY_BITS-clause-answer : goal.returns-then-m-ge-INFINITY_BITS-clause-answer
+returns-then-m-ge-INFINITY_BITS-clause-answer c = bits_infinite c.args.bits (search rules)
 
-pub returns-then-m-gt-HIGH_BITS : goal.returns-then-m-gt-HIGH_BITS
-returns-then-m-gt-HIGH_BITS c = record { answer = bits_large c.args.bits (search rules) (search rules) (search rules); number = tt }
+pub returns-then-m-gt-HIGH_BITS-clause-answer : goal.returns-then-m-gt-HIGH_BITS-clause-answer
+returns-then-m-gt-HIGH_BITS-clause-answer c = bits_large c.args.bits (search rules) (search rules) (search rules)
 
 pub float_from_bits-result : goal.float_from_bits-result
 float_from_bits-result c = no_nan_bits c.args.bits (search rules)

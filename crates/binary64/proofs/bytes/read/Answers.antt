@@ -26,5 +26,5 @@ nothing b w h = go (dec_le infinity_pattern (b % sign_bit))
     go (yes l) = reads_none b 1 (bits_infinite b l)
     go (no l) = reads_none b 2 (bits_large b w h (omega arith))
 
-pub returns : goal.returns
-returns c = record { answer = c.zero.ensures.answer ∙ nothing c.args.bits (search rules) (search rules); number = c.zero.ensures.number }
+pub returns-clause-answer : goal.returns-clause-answer
+returns-clause-answer c = c.zero.ensures.answer ∙ nothing c.args.bits (search rules) (search rules)

@@ -25,18 +25,18 @@ returns-then-in_range c =
     let r = subst (Rounds binary64 (rounding 53 (value binary64 a.x *ℤ pos (2 ^ 53)) (2 ^ 53 - k))) (sym c.quotient-x.ensures) (lift_rounded a.x k (held binary64 a.x (search rules) a.number) c.requires.few) in
     record { answer = lift_yes binary64 least reach meaning means a.x x k c.requires.few r i; number = is_number x (search rules, i.0, i.1) }
 
-pub returns-then-is_zero : goal.returns-then-is_zero
-returns-then-is_zero c =
+pub returns-then-is_zero-clause-answer : goal.returns-then-is_zero-clause-answer
+returns-then-is_zero-clause-answer c =
     let a = c.args.a in
     let z : magnitude binary64 a.x ≡ 0 = search rules in
-    record { answer = ap some c.zero.ensures.answer ∙ lift_nil binary64 least reach meaning means a.x c.args.k c.requires.few z; number = c.zero.ensures.number }
+    ap some c.zero.ensures.answer ∙ lift_nil binary64 least reach meaning means a.x c.args.k c.requires.few z
 
-pub returns : goal.returns
-returns c =
+pub returns-clause-answer : goal.returns-clause-answer
+returns-clause-answer c =
     let a = c.args.a in
     let k = c.args.k in
     let x = c.quotient-x.result in
     let z : magnitude binary64 a.x ≡ 0 → ⊥ = search rules in
     let i : InRange x → ⊥ = search rules in
     let r = subst (Rounds binary64 (rounding 53 (value binary64 a.x *ℤ pos (2 ^ 53)) (2 ^ 53 - k))) (sym c.quotient-x.ensures) (lift_rounded a.x k (held binary64 a.x (search rules) a.number) c.requires.few) in
-    record { answer = lift_no binary64 least reach meaning means a.x x k c.requires.few r z i; number = tt }
+    lift_no binary64 least reach meaning means a.x x k c.requires.few r z i

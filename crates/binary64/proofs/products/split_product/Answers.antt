@@ -31,22 +31,18 @@ returns-then-in_range c =
     let t = split_yes binary64 least reach meaning means a.x b.x (search rules, a.number, a.small) (search rules, b.number, b.small) the_rules r c.product_error-y.result c.product_error-y.ensures in
     record { answer = t.0; number = t.1 }
 
-pub returns-then-one_zero : goal.returns-then-one_zero
-returns-then-one_zero c =
+pub returns-then-one_zero-clause-answer : goal.returns-then-one_zero-clause-answer
+returns-then-one_zero-clause-answer c =
     let a = c.args.a in
     let b = c.args.b in
-    record {
-      answer =
-          split_nil binary64 least reach meaning means a.x b.x (search rules, a.number, a.small) (search rules, b.number, b.small) the_rules (units c.zero.result) (units c.zero-then-one_zero.result)
-          c.zero.ensures.answer c.zero-then-one_zero.ensures.answer (c.one_zero.ensures.yes c.if-one_zero.true);
-      number = (c.zero.ensures.number, c.zero-then-one_zero.ensures.number);
-    }
+    split_nil binary64 least reach meaning means a.x b.x (search rules, a.number, a.small) (search rules, b.number, b.small) the_rules (units c.zero.result) (units c.zero-then-one_zero.result)
+    c.zero.ensures.answer c.zero-then-one_zero.ensures.answer (c.one_zero.ensures.yes c.if-one_zero.true)
 
-pub returns : goal.returns
-returns c =
+pub returns-clause-answer : goal.returns-clause-answer
+returns-clause-answer c =
     let a = c.args.a in
     let b = c.args.b in
     let za : magnitude binary64 a.x ≡ 0 → ⊥ = search rules in
     let zb : magnitude binary64 b.x ≡ 0 → ⊥ = search rules in
     let h : InRange (mul binary64 a.x b.x) → ⊥ = search rules in
-    record { answer = split_no binary64 least reach meaning means a.x b.x (search rules, a.number, a.small) (search rules, b.number, b.small) za zb h; number = tt }
+    split_no binary64 least reach meaning means a.x b.x (search rules, a.number, a.small) (search rules, b.number, b.small) za zb h

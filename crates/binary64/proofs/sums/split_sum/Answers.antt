@@ -15,13 +15,13 @@ at_most_high-requires c =
     let b = c.args.b in
     finite_no_nan c.two_sum-x.result.0 (ap finite c.two_sum-x.ensures.0 ∙ sum_finite binary64 least reach meaning means a.x b.x (search rules, a.number, a.small) (search rules, b.number, b.small))
 
-pub returns-then-not-at_most_high : goal.returns-then-not-at_most_high
-returns-then-not-at_most_high c =
+pub returns-then-not-at_most_high-clause-answer : goal.returns-then-not-at_most_high-clause-answer
+returns-then-not-at_most_high-clause-answer c =
     let a = c.args.a in
     let b = c.args.b in
     let n = ap finite c.two_sum-x.ensures.0 ∙ sum_finite binary64 least reach meaning means a.x b.x (search rules, a.number, a.small) (search rules, b.number, b.small) in
     let h : Small c.two_sum-x.result.0 → ⊥ = c.at_most_high.ensures.no c.if-not-at_most_high.true n in
-    record { answer = split_no binary64 least reach meaning means a.x b.x (search rules, a.number, a.small) (search rules, b.number, b.small) c.two_sum-x.result.0 c.two_sum-x.ensures.0 h; number = tt }
+    split_no binary64 least reach meaning means a.x b.x (search rules, a.number, a.small) (search rules, b.number, b.small) c.two_sum-x.result.0 c.two_sum-x.ensures.0 h
 
 pub invariant_of-result-2 : goal.invariant_of-result-2
 invariant_of-result-2 c =

@@ -16,4 +16,4 @@ parts d z w f g e = rw (to_z-of_z w32 w.m f, to_z-of_z w16 w.e g) (pattern_parts
 pub returns : goal.returns
 returns c =
     put c.to_be_bytes-m.result c.to_be_bytes-e.result _ _ c.to_be_bytes-m.ensures c.to_be_bytes-e.ensures
-    ∙ parts c.args.d _ c.plain-w.result (search rules) (search rules) c.plain-w.ensures.answer
+    ∙ parts c.args.p.digits _ c.plain-w.result (search rules) (search rules) c.plain-w.ensures.answer

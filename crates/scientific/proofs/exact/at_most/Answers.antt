@@ -1,5 +1,5 @@
 -- The ranks order as the values do.
-use Rattle.std.proofs.Common.{◌≡◌, ℤ, ap, ◌∙◌, w64, SFits, to_z, of_z}
+use Rattle.std.proofs.Common.{◌≡◌, ℤ, nat_abs, ap, ◌∙◌, w64, SFits, to_z, of_z}
 use lib.Signed.{le_z}
 use Rattle.std.proofs.lemmas.Int.{to_z-of_z}
 use Rattle.scientific.proofs.Limits.{full_is}
@@ -14,4 +14,4 @@ returns c =
     let a = c.args.a in
     let b = c.args.b in
     stays c.rank.result c.rank-2.result (record { sfits = c.rank.type_inv }) (record { sfits = c.rank-2.type_inv }) ∙ ap (λ (x : ℤ). le_z x c.rank-2.result) c.rank.ensures ∙ ap (le_z _) c.rank-2.ensures
-    ∙ rank_order a.negative b.negative a.significand a.zeros b.significand b.zeros (full_is a.significand a.zeros a.full) (full_is b.significand b.zeros b.full)
+    ∙ rank_order a.significand a.zeros b.significand b.zeros (full_is (nat_abs a.significand) a.zeros a.full) (full_is (nat_abs b.significand) b.zeros b.full)

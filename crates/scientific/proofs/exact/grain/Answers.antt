@@ -1,26 +1,21 @@
--- 5 k with the zeros that were moved is the grain. It is below 10, 100 and 1000, so it has one, two and three digits.
-use Rattle.std.proofs.Common.{◌-◌, ◌*◌, arith, lit≤}
-use Rattle.scientific.proofs.ExactNumbers.{eight_digits}
-use Rattle.scientific.proofs.GrainNumbers.{grain_none, grain_moved}
+-- 5 k has at most three digits, and with its zeros it is the grain, which is at most 10^40.
+use Rattle.std.proofs.Common.{◌≡◌, ℕ, ◌*◌, ◌≤◌, pos, ◌*ℤ◌, sym, subst, mul-one, arith, w64, to_z, of_z}
+use Rattle.std.proofs.lemmas.Int.{ints}
+use Rattle.scientific.specs.Numbers.{units, Formed}
+use Rattle.scientific.proofs.GrainNumbers.{grain_some, grain_answer, grain_number}
 use Rattle.scientific.proofs.exact.grain.Goals as goal
 
-pub returns-then-n-eq0 : goal.returns-then-n-eq0
-returns-then-n-eq0 c = let g = grain_none c.args.d c.args.k _ c.requires.least c.requires.most c.requires.few c.if-n-eq0.true c.zero.ensures.answer in record { answer = g.answer; number = g.number }
+kept : (k : ℕ) → k ≤ 192 → to_z w64 (of_z w64 (to_z w64 k *ℤ pos 5)) ≡ pos (k * 5)
+kept k h = omega (arith, ints)
 
-pub invariant_of-result : goal.invariant_of-result
-invariant_of-result c = let t = eight_digits (c.args.k * 5 * 10000000) (63 - c.args.d) (omega arith) (omega arith) (omega arith) in record { full = t.0; small = t.1 }
+pub exact_form-requires : goal.exact_form-requires
+exact_form-requires c = rw (kept c.args.k c.requires) (record { short = record { m = c.args.k * 5; e = 0; is = sym (mul-one (c.args.k * 5)); few = omega arith }; few = omega arith })
 
-pub returns-then-n-lt10 : goal.returns-then-n-lt10
-returns-then-n-lt10 c = let g = grain_moved c.args.d c.args.k 7 c.requires.least c.requires.most c.requires.few (lit≤ tt) in record { answer = g.answer; number = g.number }
-
-pub invariant_of-result-then-n-lt100 : goal.invariant_of-result-then-n-lt100
-invariant_of-result-then-n-lt100 c = let t = eight_digits (c.args.k * 5 * 1000000) (64 - c.args.d) (omega arith) (omega arith) (omega arith) in record { full = t.0; small = t.1 }
-
-pub returns-then-n-lt100 : goal.returns-then-n-lt100
-returns-then-n-lt100 c = let g = grain_moved c.args.d c.args.k 6 c.requires.least c.requires.most c.requires.few (lit≤ tt) in record { answer = g.answer; number = g.number }
-
-pub invariant_of-result-2 : goal.invariant_of-result-2
-invariant_of-result-2 c = let t = eight_digits (c.args.k * 5 * 100000) (65 - c.args.d) (omega arith) (omega arith) (omega arith) in record { full = t.0; small = t.1 }
+pub unwrap-requires : goal.unwrap-requires
+unwrap-requires c = grain_some c.args.p c.args.k c.requires c.exact_form.result (rw (kept c.args.k c.requires) at c.exact_form.ensures)
 
 pub returns : goal.returns
-returns c = let g = grain_moved c.args.d c.args.k 5 c.requires.least c.requires.most c.requires.few (lit≤ tt) in record { answer = g.answer; number = g.number }
+returns c =
+    let f = subst (Formed _) c.unwrap.ensures (rw (kept c.args.k c.requires) at c.exact_form.ensures) in
+    let z = units c.unwrap.result in
+    record { answer = grain_answer c.args.p c.args.k c.requires z f; number = grain_number c.args.p c.args.k c.requires z f }

@@ -8,4 +8,4 @@ pub invariant_of-result : goal.invariant_of-result
 invariant_of-result c = record { full = refl; small = small_in 10000000 63 (under_highest 10000000 63 (lit< tt) (lit< tt)) }
 
 pub returns : goal.returns
-returns c = record { answer = one_is; number = λ d h l. rw (one_is d) (rules d h l).one_is_number }
+returns c = record { answer = one_is; number = λ p. rw (one_is p.digits) (rules p).one_is_number }

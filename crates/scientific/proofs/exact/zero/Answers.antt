@@ -6,4 +6,4 @@ use Rattle.scientific.proofs.TheRules.{rules}
 use Rattle.scientific.proofs.exact.zero.Goals as goal
 
 pub returns : goal.returns
-returns c = record { answer = refl; number = λ d h l. zero_is_number (meaning d) (rules d h l) }
+returns c = record { answer = refl; number = λ p. zero_is_number (meaning p.digits) (rules p) }

@@ -1,89 +1,61 @@
 -- Each way gives n with its zeros in the one form; the power of ten that was read stands for its value.
-use Rattle.std.proofs.Common.{◌≡◌, ℕ, ◌+◌, ◌-◌, ◌*◌, ◌/◌, ◌^◌, ◌<◌, ◌≤◌, Bool, Option, sym, ap, ◌∙◌, subst, lt_of_lt_of_le, zero-mul, arith, lit≤, w32, Fits}
-use Rattle.rounding.specs.Digits.{Digits}
-use Rattle.rounding.specs.Value.{signed}
+use Rattle.std.proofs.Common.{◌≡◌, ℕ, ◌+◌, ◌-◌, true, Option, ℤ, ◌*ℤ◌, nat_abs, ap, ◌∙◌, subst, lt_of_lt_of_le, arith, lit≤, w32, w64, SFits, to_z, of_z}
+use lib.Signed.{quot_z}
+use Rattle.std.proofs.lemmas.Int.{to_z-of_z}
 use Rattle.scientific.specs.declared.number.Scientific.{Scientific}
-use Rattle.scientific.specs.Forms.{size_of}
+use Rattle.scientific.specs.Forms.{with_zeros, is_full}
 use Rattle.scientific.specs.Numbers.{Formed}
-use Rattle.scientific.proofs.OneForm.{Shape, Counts, cut, filled, eight, some_ten}
+use Rattle.scientific.proofs.Tens.{some_ten}
+use Rattle.scientific.proofs.Casts.{wide, narrow, eight_digits, eight_narrow, power_is, power_fits}
+use Rattle.scientific.proofs.OneForm.{Shape, Counts, cut, taken}
 use Rattle.scientific.proofs.forms.exact_form.Goals as goal
 
-fits : (n k s z : ℕ) → Shape n k s z → Fits w32 s
-fits n k s z h = record { fits = lt_of_lt_of_le h.short (lit≤ tt) }
+formed : (n : ℤ) (k : ℕ) (s : ℤ) (z : ℕ) (r : Option Scientific) → Shape n k s z → Formed (with_zeros (to_z w32 (of_z w32 (to_z w64 (of_z w64 s)))) z) r → Formed (with_zeros n k) r
+formed n k s z r h f = subst (λ (x : ℤ). Formed x r) h.same (rw (eight_narrow s h.short) at f)
 
-formed : (t : Bool) (n k s z : ℕ) (r : Option Scientific) → Shape n k s z → Formed (signed t (size_of s z)) r → Formed (signed t (size_of n k)) r
-formed t n k s z r h f = subst (λ (x : ℕ). Formed (signed t x) r) h.same f
+full : (n : ℤ) (k : ℕ) (s : ℤ) (z : ℕ) → Shape n k s z → is_full (nat_abs (to_z w32 (of_z w32 (to_z w64 (of_z w64 s))))) z ≡ true
+full n k s z h = rw (eight_narrow s h.short) h.full
+
+counts : (n : ℤ) (m c : ℕ) → SFits w64 n → m ≡ nat_abs (to_z w64 (of_z w64 n)) → Counts m c → Counts (nat_abs n) c
+counts n m c f e h = subst (λ (x : ℕ). Counts x c) (e ∙ ap nat_abs (to_z-of_z w64 n f)) h
 
 -- ---- more than eight digits
-cut_by : (n c p zeros : ℕ) → Digits 10 8 n → Counts n c → 8 < c → p ≡ 10 ^ (c - 8) → Shape n zeros (n / p) (zeros + (c - 8))
-cut_by n c p zeros h C l e = subst (λ (x : ℕ). Shape n zeros (n / x) (zeros + (c - 8))) (sym e) (cut n c h C l zeros)
-
-pub nonzero_div-n : goal.nonzero_div-n
-nonzero_div-n c = subst (λ (x : ℕ). 0 < x) (sym c.power.ensures) (some_ten (c.digits-count.result - 8))
-
-shape_cut : (c : goal.After-power) → Shape c.args.n c.args.zeros (c.args.n / c.power.result) (c.args.zeros + (c.digits-count.result - 8))
+shape_cut : (c : goal.After-power) → Shape c.args.n c.args.zeros (quot_z (to_z w64 (of_z w64 c.args.n)) (to_z w64 c.power.result)) (c.args.zeros + (c.digits-count.result - 8))
 shape_cut c =
     let d = c.digits-count in
-    cut_by c.args.n d.result c.power.result c.args.zeros c.requires.short (d.ensures.under, d.ensures.least) c.if-count-gt8.true c.power.ensures
+    rw (to_z-of_z w64 c.args.n c.ranges.n, power_is c.power.result (d.result - 8) c.power.ensures (omega arith))
+    (cut c.args.n d.result c.args.zeros c.requires.short (counts c.args.n c.unsigned_abs.result d.result c.ranges.n c.unsigned_abs.ensures.value (d.ensures.under, d.ensures.least)) c.if-count-gt8.true)
+
+pub overflow_cast-power : goal.overflow_cast-power
+overflow_cast-power c = power_fits c.power.result (c.digits-count.result - 8) c.power.ensures (omega arith)
+
+pub nonzero_div-n : goal.nonzero_div-n
+nonzero_div-n c = (rw c.power.ensures (some_ten (c.digits-count.result - 8)), wide _ (lt_of_lt_of_le (shape_cut c).short (lit≤ tt)))
 
 pub overflow_cast-n : goal.overflow_cast-n
-overflow_cast-n c = fits _ _ _ _ (shape_cut c)
+overflow_cast-n c = let s = shape_cut c in rw (eight_digits _ s.short) (narrow _ s.short)
 
 pub not_above-requires-then-count-gt8 : goal.not_above-requires-then-count-gt8
-not_above-requires-then-count-gt8 c = (shape_cut c).full
+not_above-requires-then-count-gt8 c = full _ _ _ _ (shape_cut c)
 
 pub returns-then-count-gt8 : goal.returns-then-count-gt8
-returns-then-count-gt8 c =
+returns-then-count-gt8 c = formed c.args.n c.args.zeros _ _ c.not_above-then-count-gt8.result (shape_cut c.before) c.not_above-then-count-gt8.ensures
+
+-- ---- at most eight: zeros are taken in
+shape_taken : (c : goal.After-power-2) → Shape c.args.n c.args.zeros (to_z w64 (of_z w64 c.args.n) *ℤ to_z w64 c.power-2.result) (c.args.zeros - c.min-room.result)
+shape_taken c =
     let d = c.digits-count in
-    formed c.args.negative c.args.n c.args.zeros _ _ c.not_above-then-count-gt8.result
-    (cut_by c.args.n d.result c.power.result c.args.zeros c.requires.short (d.ensures.under, d.ensures.least) c.if-count-gt8.true c.power.ensures)
-    c.not_above-then-count-gt8.ensures
+    rw (to_z-of_z w64 c.args.n c.ranges.n, power_is c.power-2.result c.min-room.result c.power-2.ensures (omega arith))
+    (taken c.args.n d.result c.args.zeros c.min-room.result (counts c.args.n c.unsigned_abs.result d.result c.ranges.n c.unsigned_abs.ensures.value (d.ensures.under, d.ensures.least)) c.if-count-gt8.false (λ e. c.if-n-eq0.false (ap (of_z w64) e)) c.min-room.ensures)
 
--- ---- all zeros are taken in
-filled_by : (n c p zeros : ℕ) → Counts n c → c ≤ 8 → zeros ≤ 8 - c → p ≡ 10 ^ zeros → Shape n zeros (n * p) 0
-filled_by n c p zeros C l h e = subst (λ (x : ℕ). Shape n zeros (n * x) 0) (sym e) (filled n c C l zeros h)
-
-shape_filled : (c : goal.After-power-then-zeros-room) → Shape c.args.n c.args.zeros (c.args.n * c.power-then-zeros-room.result) 0
-shape_filled c =
-    let d = c.digits-count in
-    filled_by c.args.n d.result c.power-then-zeros-room.result c.args.zeros (d.ensures.under, d.ensures.least) c.if-count-gt8.false c.if-zeros-room.true c.power-then-zeros-room.ensures
-
-pub overflow_cast-n-then-zeros-room : goal.overflow_cast-n-then-zeros-room
-overflow_cast-n-then-zeros-room c = fits _ _ _ _ (shape_filled c)
-
-pub not_above-requires-then-zeros-room : goal.not_above-requires-then-zeros-room
-not_above-requires-then-zeros-room c = (shape_filled c).full
-
-pub returns-then-zeros-room : goal.returns-then-zeros-room
-returns-then-zeros-room c =
-    let d = c.digits-count in
-    formed c.args.negative c.args.n c.args.zeros _ _ c.not_above-then-zeros-room.result
-    (filled_by c.args.n d.result c.power-then-zeros-room.result c.args.zeros (d.ensures.under, d.ensures.least) c.if-count-gt8.false c.if-zeros-room.true c.power-then-zeros-room.ensures)
-    c.not_above-then-zeros-room.ensures
-
--- ---- as many as there is room for
-eight_by : (n c p zeros : ℕ) → Counts n c → c ≤ 8 → (n ≡ 0 → ⊥) → 8 - c ≤ zeros → p ≡ 10 ^ (8 - c) → Shape n zeros (n * p) (zeros - (8 - c))
-eight_by n c p zeros C l k h e = subst (λ (x : ℕ). Shape n zeros (n * x) (zeros - (8 - c))) (sym e) (eight n c C l zeros (omega arith) h)
-
-shape_eight : (c : goal.After-power-2) → Shape c.args.n c.args.zeros (c.args.n * c.power-2.result) (c.args.zeros - (8 - c.digits-count.result))
-shape_eight c =
-    let d = c.digits-count in
-    eight_by c.args.n d.result c.power-2.result c.args.zeros (d.ensures.under, d.ensures.least) c.if-count-gt8.false c.if-n-eq0.false (omega arith) c.power-2.ensures
+pub overflow_mul-n : goal.overflow_mul-n
+overflow_mul-n c = wide _ (lt_of_lt_of_le (shape_taken c).short (lit≤ tt))
 
 pub overflow_cast-n-2 : goal.overflow_cast-n-2
-overflow_cast-n-2 c = fits _ _ _ _ (shape_eight c)
+overflow_cast-n-2 c = let s = shape_taken c in rw (eight_digits _ s.short) (narrow _ s.short)
 
 pub not_above-requires-2 : goal.not_above-requires-2
-not_above-requires-2 c = (shape_eight c).full
+not_above-requires-2 c = full _ _ _ _ (shape_taken c)
 
 pub returns : goal.returns
-returns c =
-    let d = c.digits-count in
-    formed c.args.negative c.args.n c.args.zeros _ _ c.not_above-2.result
-    (eight_by c.args.n d.result c.power-2.result c.args.zeros (d.ensures.under, d.ensures.least) c.if-count-gt8.false c.if-n-eq0.false (omega arith) c.power-2.ensures)
-    c.not_above-2.ensures
-
--- ---- zero
-pub returns-then-n-eq0 : goal.returns-then-n-eq0
-returns-then-n-eq0 c =
-    subst (λ (x : ℕ). Formed (signed c.args.negative x) c.not_above.result) (sym (ap (λ (x : ℕ). x * 10 ^ c.args.zeros) c.if-n-eq0.true ∙ zero-mul (10 ^ c.args.zeros))) c.not_above.ensures
+returns c = formed c.args.n c.args.zeros _ _ c.not_above-2.result (shape_taken c.before) c.not_above-2.ensures

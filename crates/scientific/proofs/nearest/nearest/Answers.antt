@@ -1,17 +1,39 @@
 -- The rest of the division against what it misses of the divisor: more, as much, or less.
+use Rattle.std.proofs.Common.{◌≡◌, ℕ, ◌-◌, ◌/◌, ◌%◌, ◌<◌, Bool, true, false, eqb, ltb, sym, arith}
+use Rattle.std.proofs.lemmas.Bool.Decides.{nat_tests}
 use Rattle.scientific.proofs.Counted.{up_more, up_tie, down}
 use Rattle.scientific.proofs.nearest.nearest.Goals as goal
-use Rattle.scientific.proofs.nearest.nearest.Goals.{else-rest-missing-via-then-rest-missing+else-quotient-eq1, else-rest-missing-via-else-rest-missing}
+use Rattle.scientific.proofs.nearest.nearest.Goals.{then-missing-rest, else-missing-rest+then-missing-rest-2, else-missing-rest+else-missing-rest-2}
 
-pub returns-then-missing-rest : goal.returns-then-missing-rest
-returns-then-missing-rest c = up_more c.args.n c.args.divisor c.requires c.if-missing-rest.true
+-- what the test says, as the code has it
+odd : (q : ℕ) (t : Bool) → t ≡ eqb (q % 2) 1 → t ≡ true → q % 2 ≡ 1
+odd q t e h = grind (arith, nat_tests)
+
+even : (q : ℕ) (t : Bool) → t ≡ eqb (q % 2) 1 → t ≡ false → q % 2 ≡ 1 → ⊥
+even q t e h o = grind (arith, nat_tests)
+
+no_tie : (x y : ℕ) (t : Bool) → (x ≡ y → ⊥) → t ≡ eqb x y → t ≡ true → ⊥
+no_tie x y t n e h = grind (arith, nat_tests)
+
+no_more : (x y : ℕ) (t : Bool) → x < y → t ≡ ltb x y → t ≡ false → ⊥
+no_more x y t l e h = grind (arith, nat_tests)
 
 pub returns-then-quotient-eq1 : goal.returns-then-quotient-eq1
-returns-then-quotient-eq1 c = up_tie c.args.n c.args.divisor c.requires c.if-rest-missing.true c.if-quotient-eq1.true
+returns-then-quotient-eq1 c =
+    let n = c.args.n in
+    let d = c.args.divisor in
+    elim c.if-missing-rest.branch [
+      | then-missing-rest w ↦ up_more n d c.requires w.if-missing-rest.true
+      | else-missing-rest+then-missing-rest-2 w ↦ up_tie n d c.requires (sym w.if-missing-rest-2.true) (odd (n / d) c.if-missing-rest.value w.value-is c.if-quotient-eq1.true)
+      | else-missing-rest+else-missing-rest-2 w ↦ absurd (no_tie (d - n % d) (n % d) c.if-missing-rest.value w.if-missing-rest-2.false w.value-is c.if-quotient-eq1.true)
+    ]
 
-pub returns : goal.returns
-returns c = down c.args.n c.args.divisor c.requires c.if-missing-rest.false
-    (λ e o. elim c.else-rest-missing.branch [
-      | else-rest-missing-via-then-rest-missing+else-quotient-eq1 w ↦ w.if-quotient-eq1.false o
-      | else-rest-missing-via-else-rest-missing w ↦ w.if-rest-missing.false e
-    ])
+pub returns-else-quotient-eq1 : goal.returns-else-quotient-eq1
+returns-else-quotient-eq1 c =
+    let n = c.args.n in
+    let d = c.args.divisor in
+    elim c.if-missing-rest.branch [
+      | then-missing-rest w ↦ absurd (no_more (d - n % d) (n % d) c.if-missing-rest.value w.if-missing-rest.true w.value-is c.if-quotient-eq1.false)
+      | else-missing-rest+then-missing-rest-2 w ↦ down n d c.requires w.if-missing-rest.false (λ e. even (n / d) c.if-missing-rest.value w.value-is c.if-quotient-eq1.false)
+      | else-missing-rest+else-missing-rest-2 w ↦ down n d c.requires w.if-missing-rest.false (λ e o. w.if-missing-rest-2.false (sym e))
+    ]

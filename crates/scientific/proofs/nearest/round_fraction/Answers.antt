@@ -1,36 +1,64 @@
--- By the digits of the quotient: with at most d of them no zeros, else as many as there are too many.
-use Rattle.std.proofs.Common.{◌≡◌, ℕ, ◌-◌, ◌*◌, ◌/◌, ◌^◌, ◌<◌, ◌≤◌, sym, ap, ◌∙◌, subst, lt_of_le_of_lt, mul-pos, arith}
-use Rattle.rounding.specs.Radix.{nearest, rounded}
-use Rattle.scientific.proofs.OneForm.{Counts, some_ten}
-use Rattle.scientific.proofs.Counted.{few_digits, more_digits, under_quotient, reached_quotient, divisor_fits}
+-- The digits of the quotient are counted; the significand is the nearest whole number of that many zeros, and has the sign of n.
+use Rattle.std.proofs.Common.{◌≡◌, ℕ, ◌-◌, ◌*◌, ◌^◌, ◌≤◌, true, false, ℤ, pos, ◌-ℤ◌, neg_ℤ, nat_abs, ◌≤ℤ◌, ap, ◌∙◌, le_trans, mul-pos, arith, w64, SFits, to_z, of_z}
+use lib.Signed.{lt_z, ◌<ℤ◌}
+use Rattle.integers.proofs.Integers.{abs_neg}
+use Rattle.std.proofs.lemmas.Int.{ints, to_z-of_z}
+use Rattle.rounding.specs.Radix.{rounded}
+use Rattle.scientific.proofs.Tens.{tens, some_ten}
+use Rattle.scientific.proofs.Counted.{divisor_fits, nineteen, rounds_size, rounds_plus, rounds_minus}
 use Rattle.scientific.proofs.nearest.round_fraction.Goals as goal
 
-few : (d n den c : ℕ) → 1 ≤ d → 0 < den → Counts (n / den) c → c ≤ d → (nearest n den * 10 ^ 0 ≡ rounded 10 d n den) × (nearest n den ≤ 10 ^ d)
-few d n den c P D C l = few_digits d n den c P D (under_quotient n den (10 ^ c) D C.0) (λ k e. reached_quotient n den (10 ^ k) D (C.1 k e)) l
-
-more : (d n den c : ℕ) → 1 ≤ d → 0 < den → Counts (n / den) c → d < c → (nearest n (den * 10 ^ (c - d)) * 10 ^ (c - d) ≡ rounded 10 d n den) × (nearest n (den * 10 ^ (c - d)) ≤ 10 ^ d)
-more d n den c P D C l = more_digits d n den c P D (under_quotient n den (10 ^ c) D C.0) (λ k e. reached_quotient n den (10 ^ k) D (C.1 k e)) l
-
-pub returns-then-count-d : goal.returns-then-count-d
-returns-then-count-d c =
-    let r = few c.args.d c.args.n c.args.divisor c.digits-count.result c.requires.some c.requires.divides (c.digits-count.ensures.under, c.digits-count.ensures.least) c.if-count-d.true in
-    record { value = ap (λ (x : ℕ). x * 10 ^ 0) c.nearest.ensures ∙ r.0; short = subst (λ (x : ℕ). x ≤ 10 ^ c.args.d) (sym c.nearest.ensures) r.1; few = omega arith }
-
 pub overflow_mul-divisor : goal.overflow_mul-divisor
-overflow_mul-divisor c =
-    let p : c.args.divisor * 10 ^ (c.digits-count.result - c.args.d) ≤ c.args.n =
-    divisor_fits c.args.d c.args.n c.args.divisor c.digits-count.result c.requires.some c.if-count-d.false c.requires.divides (c.digits-count.ensures.under, c.digits-count.ensures.least) in
-    record { fits = subst (λ (x : ℕ). c.args.divisor * x < 2 ^ 64) (sym c.power.ensures) (lt_of_le_of_lt p c.ranges.n.fits) }
+overflow_mul-divisor c = let x : c.power.result ≡ 10 ^ (c.digits.result - c.args.p.digits) = c.power.ensures ∙ ap (λ (x : ℕ). 10 ^ x) c.saturating_sub-zeros.ensures in
+    record { fits = rw x (divisor_fits c.args.p.digits c.unsigned_abs-size.result c.args.divisor c.digits.result (omega arith) c.requires (c.digits.ensures.under, c.digits.ensures.least) (2 ^ 64) (omega arith) (omega arith)) }
 
-pub nearest-requires-2 : goal.nearest-requires-2
-nearest-requires-2 c = mul-pos c.requires.divides (subst (λ (x : ℕ). 0 < x) (sym c.power.ensures) (some_ten (c.digits-count.result - c.args.d)))
+pub nearest-significand-requires : goal.nearest-significand-requires
+nearest-significand-requires c = mul-pos c.requires (rw c.power.ensures (some_ten c.saturating_sub-zeros.result))
 
-pub returns : goal.returns
-returns c =
-    let d = c.args.d in
-    let n = c.args.n in
-    let den = c.args.divisor in
-    let z = c.digits-count.result - d in
-    let e : c.nearest-2.result ≡ nearest n (den * 10 ^ z) = c.nearest-2.ensures ∙ ap (λ (x : ℕ). nearest n (den * x)) c.power.ensures in
-    let r = more d n den c.digits-count.result c.requires.some c.requires.divides (c.digits-count.ensures.under, c.digits-count.ensures.least) c.if-count-d.false in
-    record { value = ap (λ (x : ℕ). x * 10 ^ z) e ∙ r.0; short = subst (λ (x : ℕ). x ≤ 10 ^ d) (sym e) r.1; few = omega arith }
+-- m with its zeros is the rounding of the size, and at most 10^d
+sized : (c : goal.After-nearest-significand) → (c.nearest-significand.result * 10 ^ c.saturating_sub-zeros.result ≡ rounded 10 c.args.p.digits (nat_abs c.args.n) c.args.divisor) × (c.nearest-significand.result ≤ 10 ^ c.args.p.digits)
+sized c =
+    let size : c.unsigned_abs-size.result ≡ nat_abs c.args.n = c.unsigned_abs-size.ensures.value ∙ ap nat_abs (to_z-of_z w64 c.args.n c.ranges.n) in
+    rw (← size) (rounds_size c.args.p.digits c.unsigned_abs-size.result c.args.divisor c.digits.result c.saturating_sub-zeros.result c.power.result c.nearest-significand.result (omega arith) c.requires (c.digits.ensures.under, c.digits.ensures.least) c.saturating_sub-zeros.ensures c.power.ensures c.nearest-significand.ensures)
+
+small : (c : goal.After-nearest-significand) → c.nearest-significand.result ≤ 10 ^ 8
+small c = le_trans (sized c).1 (tens c.args.p.digits 8 c.args.p.most)
+
+few : (c : goal.After-nearest-significand) → c.saturating_sub-zeros.result ≤ 15
+few c =
+    let n = nineteen c.args.p.digits c.unsigned_abs-size.result c.args.divisor c.digits.result (omega arith) c.requires (c.digits.ensures.under, c.digits.ensures.least) (omega arith) in
+    omega arith
+
+pub overflow_cast-significand : goal.overflow_cast-significand
+overflow_cast-significand c = let l = small c in record { sfits = omega arith }
+
+pub overflow_sub-result : goal.overflow_sub-result
+overflow_sub-result c = fits c.nearest-significand.result (small c.before)
+  where
+    fits : (m : ℕ) → m ≤ 10 ^ 8 → SFits w64 (pos 0 -ℤ to_z w64 m)
+    fits m h = grind (arith, ints)
+
+-- ---- the sign
+minus : (m : ℕ) → m ≤ 10 ^ 8 → to_z w64 (of_z w64 (pos 0 -ℤ to_z w64 m)) ≡ neg_ℤ (pos m)
+minus m h = omega (arith, ints)
+
+plus : (m : ℕ) → m ≤ 10 ^ 8 → to_z w64 m ≡ pos m
+plus m h = omega (arith, ints)
+
+below : (n : ℤ) → SFits w64 n → lt_z (to_z w64 (of_z w64 n)) (pos 0) ≡ true → n <ℤ pos 0
+below n f e = grind (arith, ints)
+
+above : (n : ℤ) → SFits w64 n → lt_z (to_z w64 (of_z w64 n)) (pos 0) ≡ false → pos 0 ≤ℤ n
+above n f e = grind (arith, ints)
+
+pub returns-then-n-lt0 : goal.returns-then-n-lt0
+returns-then-n-lt0 c =
+    let m = c.nearest-significand.result in
+    let s = sized c.before in
+    rw (minus m (small c.before)) (record { value = rounds_minus c.args.p.digits c.args.n c.args.divisor m c.saturating_sub-zeros.result s.0 (below c.args.n c.ranges.n c.if-n-lt0.true); short = rw (abs_neg (pos m)) s.1; few = few c.before })
+
+pub returns-else-n-lt0 : goal.returns-else-n-lt0
+returns-else-n-lt0 c =
+    let m = c.nearest-significand.result in
+    let s = sized c.before in
+    rw (plus m (small c.before)) (record { value = rounds_plus c.args.p.digits c.args.n c.args.divisor m c.saturating_sub-zeros.result s.0 (above c.args.n c.ranges.n c.if-n-lt0.false); short = s.1; few = few c.before })

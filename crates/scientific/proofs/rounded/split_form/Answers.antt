@@ -1,75 +1,99 @@
--- One rounding gives both parts. The error part is a number, so it is only put into its form, and it is no larger than the rounded
--- part, so that it is never above the limit alone.
-use Rattle.std.proofs.Common.{◌≡◌, ℕ, ◌+◌, ◌*◌, ◌^◌, ◌<◌, ◌≤◌, Bool, not, ◌+ℤ◌, nat_abs, None, Option, sym, ap, ◌∙◌, subst, arith}
-use Rattle.rounding.specs.Radix.{rounded}
-use Rattle.rounding.specs.Value.{signed}
+-- The rounded part is at most twice n, and the error part no more than n, so nothing overflows. Zeros stand behind both parts, and
+-- where the error part is above 10^40, the rounded one is.
+use Rattle.std.proofs.Common.{◌≡◌, ℕ, ◌+◌, ◌^◌, ◌<◌, ◌≤◌, ℤ, ◌-ℤ◌, ◌*ℤ◌, nat_abs, None, Option, sym, ap, ◌∙◌, subst, arith, w64, SFits, to_z, of_z}
+use Rattle.rounding.specs.Digits.{Digits}
+use Rattle.scientific.specs.declared.nearest.Rounded.{Rounded}
+use Rattle.scientific.specs.declared.precision.Precision.{Precision}
 use Rattle.scientific.specs.declared.number.Scientific.{Scientific}
-use Rattle.scientific.specs.Forms.{size_of, highest}
-use Rattle.scientific.specs.Splits.{SplitFormed}
-use Rattle.scientific.proofs.ErrorPart.{short_digits, more_digits, value_with, at_most_double, rest_digits, rest_above, split}
+use Rattle.scientific.specs.Forms.{with_zeros, highest}
+use Rattle.scientific.specs.Splits.{SplitFormed, rounded_to, error}
+use Rattle.scientific.proofs.Casts.{in_digits, wide, in_64, power_is, power_fits}
+use Rattle.scientific.proofs.Values.{with_more}
+use Rattle.scientific.proofs.ErrorPart.{short_digits, more_digits, error_at_most_own, rounded_at_most_double, rounded_with, error_with, error_digits, error_above}
 use Rattle.scientific.proofs.rounded.split_form.Goals as goal
 
+-- r is n rounded
+module _ (p : Precision) (n : ℤ) (r : Rounded) (small : nat_abs n < 2 ^ 62) (value : with_zeros r.significand r.zeros ≡ rounded_to p.digits (to_z w64 (of_z w64 n))) (short : nat_abs r.significand ≤ 10 ^ p.digits) where
+  abbrev d : ℕ
+  d = p.digits
+
+  P : 1 ≤ d
+  P = omega (arith, p.least)
+
+  n_kept : to_z w64 (of_z w64 n) ≡ n
+  n_kept = in_64 n (omega arith)
+
+  is : with_zeros r.significand r.zeros ≡ rounded_to d n
+  is = value ∙ ap (rounded_to d) n_kept
+
+  kept : to_z w64 (of_z w64 r.significand) ≡ r.significand
+  kept = in_digits p r.significand short
+
+  digits : Digits 10 8 (nat_abs (to_z w64 (of_z w64 r.significand)))
+  digits = rw kept (short_digits d (nat_abs r.significand) p.most short)
+
+  main : (k : ℕ) → with_zeros (to_z w64 (of_z w64 r.significand)) (r.zeros + k) ≡ rounded_to d (with_zeros n k)
+  main k = rw kept (sym (with_more r.significand r.zeros k (r.zeros + k) (omega arith)) ∙ ap (λ (x : ℤ). with_zeros x k) is ∙ rounded_with d n P k)
+
+  -- x is the power of ten that was read
+  module _ (x : ℕ) (e : x ≡ 10 ^ r.zeros) (few : r.zeros ≤ 15) where
+    product : to_z w64 (of_z w64 r.significand) *ℤ to_z w64 x ≡ rounded_to d n
+    product = rw (kept, power_is x r.zeros e (omega (arith, few))) is
+
+    room : nat_abs (rounded_to d n) < 2 ^ 63
+    room = omega (arith, rounded_at_most_double d n P)
+
+    product_fits : SFits w64 (to_z w64 (of_z w64 r.significand) *ℤ to_z w64 x)
+    product_fits = rw product (wide (rounded_to d n) room)
+
+    rest : to_z w64 (of_z w64 n) -ℤ to_z w64 (of_z w64 (to_z w64 (of_z w64 r.significand) *ℤ to_z w64 x)) ≡ error d n
+    rest = rw (product, n_kept, in_64 (rounded_to d n) room)
+
+    less : nat_abs (error d n) < 2 ^ 63
+    less = omega (arith, error_at_most_own d n P)
+
+    rest_fits : SFits w64 (to_z w64 (of_z w64 n) -ℤ to_z w64 (of_z w64 (to_z w64 (of_z w64 r.significand) *ℤ to_z w64 x)))
+    rest_fits = rw rest (wide (error d n) less)
+
+    held : to_z w64 (of_z w64 (to_z w64 (of_z w64 n) -ℤ to_z w64 (of_z w64 (to_z w64 (of_z w64 r.significand) *ℤ to_z w64 x)))) ≡ error d n
+    held = rw rest (in_64 (error d n) less)
+
+refused : (d : ℕ) (z : ℤ) (r : Option (Scientific × Scientific)) → r ≡ None → highest < nat_abs (rounded_to d z) → SplitFormed d z r
+refused d z r e h = subst (SplitFormed d z) (sym e) h
+
 pub exact_form-requires : goal.exact_form-requires
-exact_form-requires c = let r = c.round-r in record { short = short_digits c.args.d r.result.significand c.requires.few r.ensures.short; few = omega arith }
+exact_form-requires c = let r = c.round_fraction-r in record { short = digits c.args.p c.args.n r.result c.requires.small r.ensures.value r.ensures.short; few = omega (arith, r.ensures.few) }
 
--- the rounded part, as the code multiplies it out
-product : (m p z v : ℕ) → p ≡ 10 ^ z → m * 10 ^ z ≡ v → m * p ≡ v
-product m p z v e f = ap (λ (x : ℕ). m * x) e ∙ f
+pub returns-in_err-main : goal.returns-in_err-main
+returns-in_err-main c = let r = c.round_fraction-r in
+    refused c.args.p.digits (with_zeros c.args.n c.args.zeros) c.from_residual.result c.from_residual.ensures
+    (rw (main c.args.p c.args.n r.result c.requires.small r.ensures.value r.ensures.short c.args.zeros) at c.in_err-main.ensures)
 
-small : (n v x : ℕ) → n < 2 ^ 62 → v ≤ 2 * n → x ≡ v → n + x < 2 ^ 64
-small n v x h l e = omega arith
+pub overflow_cast-power : goal.overflow_cast-power
+overflow_cast-power c = let r = c.round_fraction-r in power_fits c.power.result r.result.zeros c.power.ensures (omega (arith, r.ensures.few))
 
-fits : (n x : ℕ) → n + x < 2 ^ 64 → x < 2 ^ 64
-fits n x h = omega arith
+pub overflow_mul-r : goal.overflow_mul-r
+overflow_mul-r c = let r = c.round_fraction-r in product_fits c.args.p c.args.n r.result c.requires.small r.ensures.value r.ensures.short c.power.result c.power.ensures r.ensures.few
 
-pub overflow_mul-opposite : goal.overflow_mul-opposite
-overflow_mul-opposite c =
-    let r = c.round-r in
-    let n = c.args.n.size in
-    record { fits = fits n (r.result.significand * c.power.result) (small n _ _ c.requires.small (at_most_double c.args.d n c.requires.some) (product r.result.significand c.power.result r.result.zeros _ c.power.ensures r.ensures.value)) }
-
-pub whole_sum-rest-requires : goal.whole_sum-rest-requires
-whole_sum-rest-requires c =
-    let r = c.round-r in
-    let n = c.args.n.size in
-    small n _ _ c.requires.small (at_most_double c.args.d n c.requires.some) (product r.result.significand c.power.result r.result.zeros _ c.power.ensures r.ensures.value)
-
--- what the rest is, with the rounded part as the definition has it
-rest_is : (t u : Bool) (n x y v : ℕ) → y ≡ v → signed u x ≡ signed t n +ℤ signed (not t) y → signed u x ≡ signed t n +ℤ signed (not t) v
-rest_is t u n x y v e f = f ∙ ap (λ (z : ℕ). signed t n +ℤ signed (not t) z) e
+pub overflow_sub-n : goal.overflow_sub-n
+overflow_sub-n c = let r = c.round_fraction-r in rest_fits c.args.p c.args.n r.result c.requires.small r.ensures.value r.ensures.short c.power.result c.power.ensures r.ensures.few
 
 pub exact_form-requires-2 : goal.exact_form-requires-2
 exact_form-requires-2 c =
-    let r = c.round-r in
-    let n = c.args.n in
-    let s = c.whole_sum-rest in
-    let e = rest_is n.negative s.result.negative n.size s.result.size _ _ (product r.result.significand c.power.result r.result.zeros _ c.power.ensures r.ensures.value) s.ensures in
-    record { short = more_digits c.args.d s.result.size c.requires.few (rest_digits c.args.d n.negative s.result.negative n.size s.result.size c.args.zeros c.requires.some c.requires.part e); few = omega arith }
-
-refused : (d : ℕ) (t : Bool) (n k : ℕ) (r : Option (Scientific × Scientific)) → r ≡ None → highest < nat_abs (signed t (size_of (rounded 10 d n 1) k)) → SplitFormed d (signed t (size_of (rounded 10 d n 1) k)) (signed t (size_of n k)) r
-refused d t n k r e h = subst (SplitFormed d (signed t (size_of (rounded 10 d n 1) k)) (signed t (size_of n k))) (sym e) h
-
-pub returns-in_err-main : goal.returns-in_err-main
-returns-in_err-main c =
-    let r = c.round-r in
-    refused c.args.d c.args.n.negative c.args.n.size c.args.zeros c.from_residual.result c.from_residual.ensures
-    (subst (λ (x : ℕ). highest < nat_abs (signed c.args.n.negative x)) (value_with r.result.significand r.result.zeros _ c.args.zeros r.ensures.value) c.in_err-main.ensures)
+    let r = c.round_fraction-r in
+    let d = c.args.p.digits in
+    let e = error_digits d c.args.n (omega arith) c.args.zeros c.requires.part in
+    rw (held c.args.p c.args.n r.result c.requires.small r.ensures.value r.ensures.short c.power.result c.power.ensures r.ensures.few)
+    (record { short = more_digits d (nat_abs (error d c.args.n)) c.args.p.most e; few = omega arith })
 
 pub returns-in_err-error : goal.returns-in_err-error
 returns-in_err-error c =
-    let r = c.round-r in
-    let n = c.args.n in
-    let s = c.whole_sum-rest in
-    let e = rest_is n.negative s.result.negative n.size s.result.size _ _ (product r.result.significand c.power.result r.result.zeros _ c.power.ensures r.ensures.value) s.ensures in
-    refused c.args.d c.args.n.negative c.args.n.size c.args.zeros c.from_residual-in_err-error.result c.from_residual-in_err-error.ensures
-    (rest_above c.args.d n.negative s.result.negative n.size s.result.size c.args.zeros c.requires.some c.requires.part e highest c.in_err-error.ensures)
+    let r = c.round_fraction-r in
+    let h = rw (held c.args.p c.args.n r.result c.requires.small r.ensures.value r.ensures.short c.power.result c.power.ensures r.ensures.few) at c.in_err-error.ensures in
+    refused c.args.p.digits (with_zeros c.args.n c.args.zeros) c.from_residual-in_err-error.result c.from_residual-in_err-error.ensures (error_above c.args.p.digits c.args.n (omega arith) c.args.zeros highest h)
 
 pub returns : goal.returns
 returns c =
-    let r = c.round-r in
-    let n = c.args.n in
-    let s = c.whole_sum-rest in
-    let e = rest_is n.negative s.result.negative n.size s.result.size _ _ (product r.result.significand c.power.result r.result.zeros _ c.power.ensures r.ensures.value) s.ensures in
-    split c.args.d n.negative s.result.negative n.size s.result.size c.args.zeros c.requires.some c.requires.part e _ _
-    (c.in_ok-main.ensures ∙ ap (signed n.negative) (value_with r.result.significand r.result.zeros _ c.args.zeros r.ensures.value))
-    c.in_ok-error.ensures
+    let r = c.round_fraction-r in
+    let h = rw (held c.args.p c.args.n r.result c.requires.small r.ensures.value r.ensures.short c.power.result c.power.ensures r.ensures.few) at c.in_ok-error.ensures in
+    (c.in_ok-main.ensures ∙ main c.args.p c.args.n r.result c.requires.small r.ensures.value r.ensures.short c.args.zeros, h ∙ error_with c.args.p.digits c.args.n (omega arith) c.args.zeros)

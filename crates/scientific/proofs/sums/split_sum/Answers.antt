@@ -6,4 +6,4 @@ use Rattle.scientific.proofs.Meanings.{split_turned}
 use Rattle.scientific.proofs.sums.split_sum.Goals as goal
 
 pub returns-then-a-b : goal.returns-then-a-b
-returns-then-a-b c = record { answer = c.ordered_split.ensures.answer ∙ split_turned (meaning c.args.d) (units c.args.b) (units c.args.a); number = c.ordered_split.ensures.number }
+returns-then-a-b c = record { answer = c.ordered_split.ensures.answer ∙ split_turned (meaning c.args.p.digits) (units c.args.b) (units c.args.a); number = c.ordered_split.ensures.number }

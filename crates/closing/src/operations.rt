@@ -1,13 +1,6 @@
-// A closed order, and the operations that close it.
+// The operations of closing an order and of judging a claim, each of which may leave its range.
 ghost use Rattle.std.specs.Prelude.{◌≡◌};
-ghost use Rattle.closing.specs.Operations.{closing_number};
-
-// The value of a coefficient, and the bound of its distance from the exact one.
-#[derive(Clone, Copy)]
-pub struct Coefficient<N> {
-    pub value: N,
-    pub bound: N,
-}
+ghost use Rattle.closing.specs.Operations.{closing_number, judging_number};
 
 // The six operations that close an order with the cell S, C and E, where n zeros are held.
 #[derive(Clone, Copy, PartialEq, Eq, Debug)]
@@ -38,6 +31,36 @@ impl ClosingOperation {
             ClosingOperation::LiftedProduct => 4,
             ClosingOperation::BoundSum => 5,
             ClosingOperation::Bound => 6,
+        }
+    }
+}
+
+// The five operations of judging, for a claim on a value with the bound b, and the tolerance T.
+#[derive(Clone, Copy, PartialEq, Eq, Debug)]
+pub enum JudgingOperation {
+    // the claim less the value, whose size is d
+    Difference,
+    // d + b
+    NearSum,
+    // near: that sum lifted by 3
+    Near,
+    // T + b
+    FarSum,
+    // far: that sum lifted by 3
+    Far,
+}
+
+impl JudgingOperation {
+    // The number of an operation, from 1 to 5.
+    pub fn number(self) -> u8
+        ensures { result ≡ judging_number self }
+    {
+        match self {
+            JudgingOperation::Difference => 1,
+            JudgingOperation::NearSum => 2,
+            JudgingOperation::Near => 3,
+            JudgingOperation::FarSum => 4,
+            JudgingOperation::Far => 5,
         }
     }
 }

@@ -1,9 +1,0 @@
--- A sum the other way round is the same.
-use Rattle.std.proofs.Common.{◌∙◌}
-use Rattle.scientific.specs.Numbers.{units}
-use Rattle.scientific.specs.Patterns.{meaning}
-use Rattle.scientific.proofs.Meanings.{sum_turned}
-use Rattle.scientific.proofs.sums.sum.Goals as goal
-
-pub returns-then-a-b : goal.returns-then-a-b
-returns-then-a-b c = record { answer = c.ordered_sum.ensures.answer ∙ sum_turned (meaning c.args.d) (units c.args.b) (units c.args.a); number = c.ordered_sum.ensures.number }
