@@ -16,7 +16,7 @@ use Rattle.calls.specs.declared.answer.Answer.TheVariants.{Added, Asked, Examine
 -- an answer of the definitions is told, its numbers by their patterns
 abbrev pub Tells : Meaning → Answer → Defined → Type 0
 Tells m (Added i) d = d ≡ added i
-Tells m (Asked c) d = (v : ℤ) × (b : ℤ) × (d ≡ asked v b) × (c.value.bytes ≡ m.pattern v) × (c.bound.bytes ≡ m.pattern b)
+Tells m (Asked value bound) d = (v : ℤ) × (b : ℤ) × (d ≡ asked v b) × (value.bytes ≡ m.pattern v) × (bound.bytes ≡ m.pattern b)
 Tells m (Examined v) d = d ≡ marked (told_verdict v)
 Tells m Cleared d = d ≡ cleared
 Tells m (Refused r) d = d ≡ told_refusal r

@@ -3,7 +3,6 @@ ghost use Rattle.std.specs.Prelude.{◌≡◌};
 ghost use Rattle.calls.specs.Outcomes.{outcome_of};
 
 use bench::refusal::Refusal;
-use closing::coefficient::Coefficient;
 use closing::verdict::Verdict;
 use patterns::Pattern;
 use std::fmt;
@@ -12,7 +11,7 @@ use std::fmt;
 pub enum Answer {
     // the number of the zero that was added
     Added(u8),
-    Asked(Coefficient<Pattern>),
+    Asked { value: Pattern, bound: Pattern },
     Examined(Verdict),
     Cleared,
     Refused(Refusal),
@@ -34,9 +33,7 @@ impl fmt::Display for Answer {
     fn fmt<W: fmt::Write>(&self, f: &mut fmt::Formatter<W>) -> fmt::Result {
         match self {
             Answer::Added(number) => write!(f, "{number}"),
-            Answer::Asked(coefficient) => {
-                write!(f, "{} {}", coefficient.value, coefficient.bound)
-            }
+            Answer::Asked { value, bound } => write!(f, "{value} {bound}"),
             Answer::Examined(verdict) => write!(f, "{verdict}"),
             Answer::Cleared => write!(f, "C"),
             Answer::Refused(refusal) => write!(f, "R {refusal}"),

@@ -27,7 +27,10 @@ fn check<A: Arithmetic>(
     bench: &mut Bench<A>,
     arith: &mut A,
     line: &str,
-) -> anyhow::Result<bool> {
+) -> anyhow::Result<bool>
+    requires law { A.lawful arith.old }
+    ensures law { A.lawful arith.new }
+{
     if let Some((question, expected)) = line.split_once(" = ")
         && let Some(call) = parse(question)
     {
@@ -39,7 +42,9 @@ fn check<A: Arithmetic>(
 }
 
 // A cell of zeros.
-fn empty<A: Arithmetic>(arith: &A) -> Cell<A::Plain> {
+fn empty<A: Arithmetic>(arith: &A) -> Cell<A::Plain>
+    requires law { A.lawful arith.now }
+{
     let zero = arith.plain(arith.zero());
     Cell {
         sum: zero,
@@ -54,7 +59,9 @@ fn work_card<A: Arithmetic>(
     arith: &mut A,
     k: u8,
     lines: &str,
-) -> anyhow::Result<Score> {
+) -> anyhow::Result<Score>
+    requires law { A.lawful arith.old }
+{
     let mut score = Score::new();
     if k == 0 || k > 64 {
         println!(rt; "no highest order: {k}")?;

@@ -9,7 +9,7 @@ abbrev pub TakesNumbers : {A N P : Type 0} → (A → Setting P) → (N → ℤ)
 TakesNumbers {A} {N} setting value arith may =
     (a : MutBor A) (x y : N) → a.now ≡ arith → Number (setting arith).meaning (value x) → Number (setting arith).meaning (value y) → may a x y
 
--- whatever it answers may be told by the arithmetic that it leaves
-abbrev pub TellsAnswers : {A N R : Type 0} → A → (MutBor A → N → N → R → MutBor A → Type 0) → (Bor A → R → Type 0) → Type 0
-TellsAnswers {A} {N} {R} arith answers may =
-    (a : MutBor A) (x y : N) (r : R) (a' : MutBor A) (b : Bor A) → a.now ≡ arith → answers a x y r a' → b.now ≡ a'.now → may b r
+-- it leaves the arithmetic's limits lawful, and whatever it answers may be told by the arithmetic that it leaves
+abbrev pub TellsAnswers : {A N R : Type 0} → (A → Type 0) → A → (MutBor A → N → N → R → MutBor A → Type 0) → (Bor A → R → Type 0) → Type 0
+TellsAnswers {A} {N} {R} lawful arith answers may =
+    (a : MutBor A) (x y : N) (r : R) (a' : MutBor A) → a.now ≡ arith → answers a x y r a' → lawful a'.now × ((b : Bor A) → b.now ≡ a'.now → may b r)

@@ -12,7 +12,8 @@ use patterns::Pattern;
 
 // The pattern of a rounded result.
 fn rounded<A: Arithmetic>(arith: &A, result_of: Option<A::Number>) -> Answer
-    requires number { Gives (A.Arithmetic.setting arith.now).meaning A.Arithmetic.value result_of }
+    requires law { A.lawful arith.now }
+    requires number { Gives (A.setting arith.now).meaning A.value result_of }
 {
     match result_of {
         Some(number) => Answer::Number(Pattern {
@@ -24,7 +25,8 @@ fn rounded<A: Arithmetic>(arith: &A, result_of: Option<A::Number>) -> Answer
 
 // The patterns of a rounded result and of its error part.
 fn in_parts<A: Arithmetic>(arith: &A, parts: Option<(A::Number, A::Number)>) -> Answer
-    requires numbers { GivesBoth (A.Arithmetic.setting arith.now).meaning A.Arithmetic.value parts }
+    requires law { A.lawful arith.now }
+    requires numbers { GivesBoth (A.setting arith.now).meaning A.value parts }
 {
     match parts {
         Some((main, error)) => Answer::Split(
@@ -45,7 +47,8 @@ fn operands<A: Arithmetic>(
     a: Pattern,
     b: Pattern,
 ) -> Result<(A::Number, A::Number), Cause>
-    ensures { IfOk result (λ p. GivesBoth (A.Arithmetic.setting arith.now).meaning A.Arithmetic.value (Some p)) }
+    requires law { A.lawful arith.now }
+    ensures { IfOk result (λ p. GivesBoth (A.setting arith.now).meaning A.value (Some p)) }
 {
     Ok((arith.admit(&a.bytes)?, arith.admit(&b.bytes)?))
 }
@@ -57,8 +60,10 @@ fn on_numbers<
     F: FnOnce(&mut A, A::Number, A::Number) -> R,
     G: FnOnce(&A, R) -> Answer,
 >(arith: &mut A, a: Pattern, b: Pattern, operation: F, tell: G) -> Answer
-    requires takes { TakesNumbers A.Arithmetic.setting A.Arithmetic.value arith.old (F.pre operation) }
-    requires tells { TellsAnswers arith.old (F.post operation) (G.pre tell) }
+    requires law { A.lawful arith.old }
+    requires takes { TakesNumbers A.setting A.value arith.old (F.pre operation) }
+    requires tells { TellsAnswers A.lawful arith.old (F.post operation) (G.pre tell) }
+    ensures { A.lawful arith.new }
 {
     match operands(arith, a, b) {
         Ok((x, y)) => {
@@ -70,7 +75,9 @@ fn on_numbers<
 }
 
 // A number lifted by m, where m is one that numbers are lifted by.
-fn lift<A: Arithmetic>(arith: &mut A, a: Pattern, m: u8) -> Answer {
+fn lift<A: Arithmetic>(arith: &mut A, a: Pattern, m: u8) -> Answer
+    requires law { A.lawful arith.old }
+{
     if m > 192 {
         return Answer::NoOperand;
     }
@@ -83,7 +90,9 @@ fn lift<A: Arithmetic>(arith: &mut A, a: Pattern, m: u8) -> Answer {
     }
 }
 
-fn admission<A: Arithmetic>(arith: &A, a: Pattern) -> Answer {
+fn admission<A: Arithmetic>(arith: &A, a: Pattern) -> Answer
+    requires law { A.lawful arith.now }
+{
     match arith.admit(&a.bytes) {
         Ok(x) => Answer::Number(Pattern {
             bytes: arith.pattern(x),
@@ -92,7 +101,9 @@ fn admission<A: Arithmetic>(arith: &A, a: Pattern) -> Answer {
     }
 }
 
-fn at_most<A: Arithmetic>(arith: &A, a: Pattern, b: Pattern) -> Answer {
+fn at_most<A: Arithmetic>(arith: &A, a: Pattern, b: Pattern) -> Answer
+    requires law { A.lawful arith.now }
+{
     operands(arith, a, b).map_or(Answer::NoOperand, |(x, y)| {
         Answer::Truth(arith.at_most(x, y))
     })
@@ -106,7 +117,9 @@ pub struct Worked {
     pub whole: (Operation, Answer),
 }
 
-pub fn work<A: Arithmetic>(arith: &mut A, vector: Vector) -> Worked {
+pub fn work<A: Arithmetic>(arith: &mut A, vector: Vector) -> Worked
+    requires law { A.lawful arith.old }
+{
     match vector {
         Vector::Sum(a, b) => Worked {
             rounded: Some((Operation::Sum, on_numbers(arith, a, b, A::sum, rounded))),
