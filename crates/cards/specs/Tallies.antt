@@ -2,7 +2,10 @@
 use Rattle.std.specs.Prelude.{◌==◌}
 use Rattle.comparison.specs.Scores.{no_answers, counted, gathered}
 use Rattle.comparison.specs.declared.score.Score.{Score}
+use Rattle.comparison.specs.declared.format.Format.{Format}
+use Rattle.comparison.specs.declared.format.Format.TheVariants.{Binary64, Decimal}
 use Rattle.cards.specs.declared.tally.Tally.{Tally}
+use Rattle.cards.specs.declared.tally.Tallies.{Tallies}
 
 -- before any card
 abbrev pub no_cards : Tally
@@ -11,3 +14,12 @@ no_cards = record { cards = no_answers; calls = no_answers }
 -- after one card more, given the score of its calls: it agrees if each of them does
 abbrev pub noted : Tally → Score → Tally
 noted t calls = record { cards = counted t.cards (calls.agree == calls.compared); calls = gathered t.calls calls }
+
+-- before any card of any format
+abbrev pub no_tallies : Tallies
+no_tallies = record { binary64 = no_cards; decimal = no_cards }
+
+-- after one card more of a format: its tally alone has counted it
+abbrev pub noted_of : Tallies → Format → Score → Tallies
+noted_of t Binary64 calls = record t { binary64 = noted t.binary64 calls }
+noted_of t Decimal calls = record t { decimal = noted t.decimal calls }

@@ -5,36 +5,21 @@
 // refusal and its details. Lines that begin with `#` are comments.
 #![tactic(auto)]
 
-ghost use Rattle.std.specs.Prelude.{◌≡◌, ◌≤◌, length};
-ghost use Rattle.bench.specs.Benches.{Standing};
-
-use answer::Answer;
 use arithmetic::Arithmetic;
 use bench::Bench;
 use binary64::Binary64;
 use call::parse;
-use comparison::read_count;
+use calls::work::work;
+use comparison::format::Format;
 use comparison::score::Score;
+use comparison::{compare, read_count};
 use decimal::Decimal;
 use row::cell::Cell;
 use std::io;
-use tally::Tally;
-use work::work;
+use tally::Tallies;
 
-mod answer;
 mod call;
 mod tally;
-mod work;
-
-// Whether an answer is the expected one; prints the line and the answer where it is not.
-fn compare(rt: &HostRuntime, answer: Answer, expected: &str, line: &str) -> anyhow::Result<bool> {
-    let told = answer.to_string(rt.alloc())?;
-    let agrees = told.as_str() == expected;
-    if !agrees {
-        println!(rt; "differs: {line}: {told}")?;
-    }
-    Ok(agrees)
-}
 
 // Works the call of a line and compares its answer; prints a line that has another form.
 fn check<A: Arithmetic>(
@@ -43,60 +28,22 @@ fn check<A: Arithmetic>(
     arith: &mut A,
     line: &str,
 ) -> anyhow::Result<bool>
-    requires standing { Standing bench.old }
-    ensures standing { Standing bench.new }
+    requires law { A.lawful arith.old }
+    ensures law { A.lawful arith.new }
 {
-    if let Some((question, expected)) = line.split_once(" = ") {
-        if let Some(call) = parse(question) {
-            let answer = work(bench, arith, call);
-            return compare(rt, answer, expected, line);
-        }
+    if let Some((question, expected)) = line.split_once(" = ")
+        && let Some(call) = parse(question)
+    {
+        let answer = work(bench, arith, call);
+        return compare(rt, &answer, expected, line);
     }
     println!(rt; "not a call: {line}")?;
     Ok(false)
 }
 
-// Works the lines of a card on a bench over a row.
-fn work_on<A: Arithmetic>(
-    rt: &HostRuntime,
-    arith: &mut A,
-    row: &mut [Cell<A::Plain>],
-    lines: &str,
-) -> anyhow::Result<Score>
-    requires cells { 2 ≤ length row.old }
-    requires few { length row.old ≤ 65 }
-{
-    let mut bench = Bench::make(arith, row, 1);
-    let mut score = Score::new();
-    for line in lines.lines() {
-        if !line.starts_with('#') {
-            score.note(check(rt, &mut bench, arith, line)?);
-        }
-    }
-    Ok(score)
-}
-
-// Works a card of highest order k on the first k + 1 of 65 cells; there is none of order 0 or above 64.
-fn work_card<A: Arithmetic>(
-    rt: &HostRuntime,
-    arith: &mut A,
-    row: &mut [Cell<A::Plain>],
-    k: u8,
-    lines: &str,
-) -> anyhow::Result<Score>
-    requires cells { length row.old ≡ 65 }
-{
-    if k == 0 || k > 64 {
-        println!(rt; "no highest order: {k}")?;
-        let mut none = Score::new();
-        none.note(false);
-        return Ok(none);
-    }
-    work_on(rt, arith, &mut row[0..k as usize + 1], lines)
-}
-
 // A cell of zeros.
 fn empty<A: Arithmetic>(arith: &A) -> Cell<A::Plain>
+    requires law { A.lawful arith.now }
 {
     let zero = arith.plain(arith.zero());
     Cell {
@@ -106,51 +53,61 @@ fn empty<A: Arithmetic>(arith: &A) -> Cell<A::Plain>
     }
 }
 
-fn work_binary64(rt: &HostRuntime, k: u8, lines: &str) -> anyhow::Result<Score> {
-    let mut arith = Binary64;
-    let mut row = [empty(&arith); 65];
-    work_card(rt, &mut arith, &mut row, k, lines)
+// Works the lines of a card of highest order k; there is none of order 0 or above 64.
+fn work_card<A: Arithmetic>(
+    rt: &HostRuntime,
+    arith: &mut A,
+    k: u8,
+    lines: &str,
+) -> anyhow::Result<Score>
+    requires law { A.lawful arith.old }
+{
+    let mut score = Score::new();
+    if k == 0 || k > 64 {
+        println!(rt; "no highest order: {k}")?;
+        score.note(false);
+        return Ok(score);
+    }
+    let mut row = vec![in rt.alloc(); empty(arith); k as usize + 1]?;
+    let mut bench = Bench::make(arith, &mut row, 1);
+    for line in lines.lines() {
+        if !line.starts_with('#') {
+            score.note(check(rt, &mut bench, arith, line)?);
+        }
+    }
+    Ok(score)
 }
 
-fn work_decimal(rt: &HostRuntime, k: u8, lines: &str) -> anyhow::Result<Score> {
-    let mut arith = Decimal::eight();
-    let mut row = [empty(&arith); 65];
-    work_card(rt, &mut arith, &mut row, k, lines)
-}
-
-// The name of the arithmetic and the highest order.
-fn read_heading(heading: &str) -> Option<(&str, u8)> {
+// The format and the highest order that a heading names; none where it has another form.
+fn read_heading(heading: &str) -> Option<(Format, u8)> {
     let (name, order) = heading.split_once(' ')?;
-    Some((name, read_count(order)?))
+    Some((name.parse().ok()?, read_count(order)?))
 }
 
 // Works a card, given by the text after its word `card`; prints a heading that has another form.
-fn check_card(
-    rt: &HostRuntime,
-    binary64: &mut Tally,
-    decimal: &mut Tally,
-    card: &str,
-) -> anyhow::Result<()> {
+fn check_card(rt: &HostRuntime, tallies: &mut Tallies, card: &str) -> anyhow::Result<()> {
     let (heading, lines) = card.split_once('\n').unwrap_or((card, ""));
-    match read_heading(heading) {
-        Some(("binary64", k)) => binary64.note(work_binary64(rt, k, lines)?),
-        Some(("decimal", k)) => decimal.note(work_decimal(rt, k, lines)?),
-        _ => println!(rt; "not a card: {heading}")?,
-    }
+    let Some((format, k)) = read_heading(heading) else {
+        println!(rt; "not a card: {heading}")?;
+        return Ok(());
+    };
+    let calls = match format {
+        Format::Binary64 => work_card(rt, &mut Binary64, k, lines)?,
+        Format::Decimal => work_card(rt, &mut Decimal::eight(), k, lines)?,
+    };
+    tallies.note(format, calls);
     Ok(())
 }
 
 fn run(rt: &HostRuntime) -> anyhow::Result<()> {
     let text = io::read_to_string(rt.alloc(), rt.stdin())?;
-    let mut binary64 = Tally::new();
-    let mut decimal = Tally::new();
+    let mut tallies = Tallies::new();
     for card in text.as_str().split("\ncard ") {
         if !card.starts_with('#') {
-            check_card(rt, &mut binary64, &mut decimal, card)?;
+            check_card(rt, &mut tallies, card)?;
         }
     }
-    println!(rt; "binary64\n{binary64}")?;
-    println!(rt; "decimal\n{decimal}")?;
+    println!(rt; "{tallies}")?;
     Ok(())
 }
 

@@ -1,7 +1,8 @@
 // How many cards and calls agree with the expected ones.
 ghost use Rattle.std.specs.Prelude.{◌≡◌};
-ghost use Rattle.cards.specs.Tallies.{no_cards, noted};
+ghost use Rattle.cards.specs.Tallies.{no_cards, noted, no_tallies, noted_of};
 
+use comparison::format::Format;
 use comparison::score::Score;
 use std::fmt;
 
@@ -33,8 +34,41 @@ impl Tally {
 
 impl fmt::Display for Tally {
     fn fmt<W: fmt::Write>(&self, f: &mut fmt::Formatter<W>) -> fmt::Result {
-        let cards = self.cards;
-        let calls = self.calls;
-        write!(f, "cards: {cards}\ncalls: {calls}")
+        write!(f, "cards: {}\ncalls: {}", self.cards, self.calls)
+    }
+}
+
+// A tally for each format.
+#[derive(Clone, Copy)]
+pub struct Tallies {
+    binary64: Tally,
+    decimal: Tally,
+}
+
+impl Tallies {
+    pub fn new() -> Tallies
+        ensures { result ≡ no_tallies }
+    {
+        Tallies {
+            binary64: Tally::new(),
+            decimal: Tally::new(),
+        }
+    }
+
+    // Counts a card of a format, given the score of its calls.
+    pub fn note(&mut self, format: Format, calls: Score)
+        ensures { self.new ≡ noted_of self.old format calls }
+    {
+        match format {
+            Format::Binary64 => self.binary64.note(calls),
+            Format::Decimal => self.decimal.note(calls),
+        }
+    }
+}
+
+impl fmt::Display for Tallies {
+    fn fmt<W: fmt::Write>(&self, f: &mut fmt::Formatter<W>) -> fmt::Result {
+        writeln!(f, "{}\n{}", Format::Binary64, self.binary64)?;
+        write!(f, "{}\n{}", Format::Decimal, self.decimal)
     }
 }

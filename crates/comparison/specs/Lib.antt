@@ -1,2 +1,3 @@
 pub mod Words
+pub mod Formats
 pub mod Scores

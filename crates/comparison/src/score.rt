@@ -4,7 +4,7 @@ ghost use Rattle.comparison.specs.Scores.{no_answers, counted, gathered};
 
 use std::fmt;
 
-#[derive(Clone, Copy)]
+#[derive(Clone, Copy, Debug, PartialEq, Eq)]
 pub struct Score {
     pub agree: u32,
     pub compared: u32,
@@ -50,8 +50,6 @@ impl fmt::Display for Score {
     ghost output = { λ s. Some (decimal s.agree ++ (codes " of " ++ (decimal s.compared ++ codes " agree"))) };
 
     fn fmt<W: fmt::Write>(&self, f: &mut fmt::Formatter<W>) -> fmt::Result {
-        let agree = self.agree;
-        let compared = self.compared;
-        write!(f, "{agree} of {compared} agree")
+        write!(f, "{} of {} agree", self.agree, self.compared)
     }
 }

@@ -1,5 +1,6 @@
 // What an operation answers.
-use comparison::pattern::Pattern;
+use arithmetic::cause::Cause;
+use patterns::Pattern;
 use std::fmt;
 
 #[derive(Clone, Copy)]
@@ -9,8 +10,7 @@ pub enum Answer {
     Split(Pattern, Pattern),
     Truth(bool),
     Refused,
-    // the number of the cause
-    NotAdmitted(u8),
+    NotAdmitted(Cause),
     // an operand is none that the operation has
     NoOperand,
 }
@@ -23,7 +23,7 @@ impl fmt::Display for Answer {
             Answer::Truth(true) => write!(f, "yes"),
             Answer::Truth(false) => write!(f, "no"),
             Answer::Refused => write!(f, "-"),
-            Answer::NotAdmitted(cause) => write!(f, "!{cause}"),
+            Answer::NotAdmitted(cause) => write!(f, "!{}", cause.number()),
             Answer::NoOperand => write!(f, "no operand"),
         }
     }

@@ -1,31 +1,29 @@
 // The vectors as they are read.
-use comparison::{read_count, read_pattern};
+use comparison::read_count;
+use patterns::Pattern;
 
 #[derive(Clone, Copy)]
 pub enum Vector {
-    Sum([u8; 8], [u8; 8]),
-    Product([u8; 8], [u8; 8]),
+    Sum(Pattern, Pattern),
+    Product(Pattern, Pattern),
     // a number, and what it is lifted by
-    Lift([u8; 8], u8),
-    Admit([u8; 8]),
-    AtMost([u8; 8], [u8; 8]),
+    Lift(Pattern, u8),
+    Admit(Pattern),
+    AtMost(Pattern, Pattern),
 }
 
 // The vector that the words of a line tell; none where they have another form.
 pub fn parse(question: &str) -> Option<Vector> {
     let mut words = question.split(' ');
     let operation = words.next()?;
-    let first = read_pattern(words.next()?)?;
+    let first: Pattern = words.next()?.parse().ok()?;
     let vector = match operation {
-        "sum" => Vector::Sum(first, read_pattern(words.next()?)?),
-        "product" => Vector::Product(first, read_pattern(words.next()?)?),
+        "sum" => Vector::Sum(first, words.next()?.parse().ok()?),
+        "product" => Vector::Product(first, words.next()?.parse().ok()?),
         "lift" => Vector::Lift(first, read_count(words.next()?)?),
         "admit" => Vector::Admit(first),
-        "at-most" => Vector::AtMost(first, read_pattern(words.next()?)?),
+        "at-most" => Vector::AtMost(first, words.next()?.parse().ok()?),
         _ => return None,
     };
-    match words.next() {
-        Some(_) => None,
-        None => Some(vector),
-    }
+    words.next().is_none().then_some(vector)
 }

@@ -1,0 +1,131 @@
+// The calls of a bench, worked with patterns for numbers.
+ghost use Rattle.std.specs.Prelude.{◌≡◌, ◌+◌, ◌<◌};
+ghost use Rattle.arithmetic.specs.Setting.{Stays};
+ghost use Rattle.coefficients.specs.Calls.{withdraw as withdraw_call, withdrawn};
+ghost use Rattle.bench.specs.Benches.{making_of, state_of, AnswersCall, Keeps};
+ghost use Rattle.calls.specs.Works.{settled, Takes, Works};
+
+use crate::answer::Answer;
+use crate::call::Call;
+use arithmetic::Arithmetic;
+use bench::Bench;
+use bench::question::{GivenBack, Question};
+use patterns::Pattern;
+
+// Adds a zero.
+pub fn add<A: Arithmetic>(bench: &mut Bench<'_, A>, arith: &mut A, zero: Pattern) -> Answer
+    requires law { A.lawful arith.old }
+    ensures works { Works (A.setting arith.old) bench.old bench.new (Call.Add zero) result }
+    ensures counts { bench.new.out ≡ bench.old.out }
+    ensures arith { Stays A.setting A.lawful arith.old arith.new }
+{
+    match bench.add(arith, &zero.bytes) {
+        Ok(number) => Answer::Added(number),
+        Err(refusal) => Answer::Refused(refusal),
+    }
+}
+
+// Asks an order.
+pub fn ask<A: Arithmetic>(bench: &Bench<'_, A>, arith: &mut A, order: u8) -> Answer
+    requires law { A.lawful arith.old }
+    ensures works { Works (A.setting arith.old) bench.now bench.now (Call.Ask order) result }
+    ensures arith { Stays A.setting A.lawful arith.old arith.new }
+{
+    match bench.ask(arith, order) {
+        Ok((value, bound)) => Answer::Asked {
+            value: Pattern {
+                bytes: arith.pattern(value),
+            },
+            bound: Pattern {
+                bytes: arith.pattern(bound),
+            },
+        },
+        Err(refusal) => Answer::Refused(refusal),
+    }
+}
+
+// Clears the bench.
+pub fn clear<A: Arithmetic>(bench: &mut Bench<'_, A>, arith: &A) -> Answer
+    requires law { A.lawful arith.now }
+    ensures { Works (A.setting arith.now) bench.old bench.new Call.Clear result }
+{
+    match bench.clear(arith) {
+        Ok(()) => Answer::Cleared,
+        Err(refusal) => Answer::Refused(refusal),
+    }
+}
+
+// Withdraws a question of this bench.
+pub fn withdraw<A: Arithmetic>(bench: &mut Bench<'_, A>, arith: &A, question: Question)
+    requires law { A.lawful arith.now }
+    requires own { question.bench ≡ bench.old.number }
+    requires out { 0 < bench.old.out }
+    ensures called { AnswersCall (A.setting arith.now) bench.old bench.new (withdraw_call question.bench question.order) withdrawn }
+    ensures keeps { Keeps (A.setting arith.now) bench.old bench.new }
+    ensures counts { bench.new.out + 1 ≡ bench.old.out }
+{
+    match bench.withdraw(arith, question) {
+        Ok(()) => {}
+        Err(_) => unreachable!(),
+    }
+}
+
+// Marks a claim by a question of this bench; where the marking is refused, the question is withdrawn.
+fn settle<A: Arithmetic>(
+    bench: &mut Bench<'_, A>,
+    arith: &mut A,
+    question: Question,
+    claim: Pattern,
+    tolerance: Pattern,
+) -> Answer
+    requires law { A.lawful arith.old }
+    requires own { question.bench ≡ bench.old.number }
+    requires out { 0 < bench.old.out }
+    ensures takes { Takes (A.setting arith.old) bench.old bench.new (settled (making_of (A.setting arith.old) bench.old) (state_of (A.setting arith.old) bench.old) question.order claim.bytes tolerance.bytes) result }
+    ensures arith { Stays A.setting A.lawful arith.old arith.new }
+{
+    match bench.mark(arith, question, &claim.bytes, &tolerance.bytes) {
+        Ok(verdict) => Answer::Examined(verdict),
+        Err(back) => {
+            let GivenBack { question, refusal } = back;
+            withdraw(bench, arith, question);
+            Answer::Refused(refusal)
+        }
+    }
+}
+
+// Issues a question of an order, and marks a claim by it.
+pub fn examine<A: Arithmetic>(
+    bench: &mut Bench<'_, A>,
+    arith: &mut A,
+    order: u8,
+    claim: Pattern,
+    tolerance: Pattern,
+) -> Answer
+    requires law { A.lawful arith.old }
+    ensures works { Works (A.setting arith.old) bench.old bench.new (Call.Examine order claim tolerance) result }
+    ensures arith { Stays A.setting A.lawful arith.old arith.new }
+{
+    match bench.issue(arith, order) {
+        Ok(question) => settle(bench, arith, question, claim, tolerance),
+        Err(refusal) => Answer::Refused(refusal),
+    }
+}
+
+// Works a call.
+pub fn work<A: Arithmetic>(bench: &mut Bench<'_, A>, arith: &mut A, call: Call) -> Answer
+    requires law { A.lawful arith.old }
+    ensures works { Works (A.setting arith.old) bench.old bench.new call result }
+    ensures arith { Stays A.setting A.lawful arith.old arith.new }
+{
+    match call {
+        Call::Add(zero) => add(bench, arith, zero),
+        Call::Ask(order) => ask(bench, arith, order),
+        Call::Examine {
+            order,
+            claim,
+            tolerance,
+        } => examine(bench, arith, order, claim, tolerance),
+        Call::Clear => clear(bench, arith),
+    }
+}

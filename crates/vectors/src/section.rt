@@ -1,0 +1,74 @@
+// A section of vectors: those that are worked through the arithmetic of one format.
+use crate::answer::Answer;
+use crate::tally::{Operation, Tally};
+use crate::vector::parse;
+use crate::work::{Worked, work};
+use binary64::Binary64;
+use comparison::compare;
+use comparison::format::Format;
+use decimal::Decimal;
+use std::fmt;
+
+// The format that it names, and what is counted of its vectors.
+#[derive(Drop)]
+pub struct Section {
+    format: Format,
+    tally: Tally,
+}
+
+impl fmt::Display for Section {
+    fn fmt<W: fmt::Write>(&self, f: &mut fmt::Formatter<W>) -> fmt::Result {
+        write!(f, "{}\n{}", self.format, self.tally)
+    }
+}
+
+impl Section {
+    pub fn new(format: Format) -> Section {
+        Section {
+            format,
+            tally: Tally::new(),
+        }
+    }
+
+    // Works a question through the arithmetic of the section; none where it is no vector.
+    pub fn work(&self, question: &str) -> Option<Worked> {
+        let vector = parse(question)?;
+        Some(match self.format {
+            Format::Binary64 => work(&mut Binary64, vector),
+            Format::Decimal => work(&mut Decimal::eight(), vector),
+        })
+    }
+
+    // Compares an answer with the expected one, and counts it.
+    fn compare(
+        &mut self,
+        rt: &HostRuntime,
+        answered: (Operation, Answer),
+        expected: &str,
+        line: &str,
+    ) -> anyhow::Result<()> {
+        let (operation, answer) = answered;
+        self.tally
+            .note(operation, compare(rt, &answer, expected, line)?);
+        Ok(())
+    }
+
+    // Compares what a line was worked to with what stands after its ` = `.
+    pub fn settle(
+        &mut self,
+        rt: &HostRuntime,
+        worked: Worked,
+        expected: &str,
+        line: &str,
+    ) -> anyhow::Result<()> {
+        if let Some(rounded) = worked.rounded {
+            self.compare(rt, rounded, first_word(expected), line)?;
+        }
+        self.compare(rt, worked.whole, expected, line)
+    }
+}
+
+// The first word of an answer.
+fn first_word(answer: &str) -> &str {
+    answer.split_once(' ').map_or(answer, |(first, _)| first)
+}
