@@ -36,7 +36,9 @@ impl fmt::Display for Pattern {
 
     #[tactic(auto, using(crate::proofs::Digits::byte_written))]
     fn fmt<W: fmt::Write>(&self, f: &mut fmt::Formatter<W>) -> fmt::Result {
-        for byte in self.bytes {
+        // by an index, as the project's rules have it for the digits of a pattern
+        for i in 0..8 {
+            let byte = self.bytes[i];
             write!(f, "{byte:02X}")?;
         }
         Ok(())
