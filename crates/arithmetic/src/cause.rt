@@ -5,11 +5,11 @@ ghost use Rattle.arithmetic.specs.Causes.{cause_number};
 #[derive(Clone, Copy)]
 pub enum Cause {
     // an infinity or a NaN
-    NotFinite,
+    NotFinite = 1,
     // a number of the format whose size is above the arithmetic's upper limit
-    TooLarge,
+    TooLarge = 2,
     // a second way to write a number that has one form
-    NotInOneForm,
+    NotInOneForm = 3,
 }
 
 impl Cause {
@@ -17,10 +17,6 @@ impl Cause {
     pub fn number(self) -> u8
         ensures { result ≡ cause_number self }
     {
-        match self {
-            Cause::NotFinite => 1,
-            Cause::TooLarge => 2,
-            Cause::NotInOneForm => 3,
-        }
+        self as u8
     }
 }

@@ -14,7 +14,7 @@ use crate::bench::Bench;
 use crate::refusal::Refusal;
 use arithmetic::Arithmetic;
 use closing::close;
-use closing::operations::ClosingOperation;
+use closing::operation::ClosingOperation;
 use row::cell::Cell;
 
 // The cell of order k.

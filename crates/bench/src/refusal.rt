@@ -4,7 +4,8 @@ ghost use Rattle.bench.specs.Refusals.{refusal_number, refusal_details, told_det
 ghost use Rattle.bench.specs.declared.refusal.Refusal.TheVariants.{AddingOutOfRange, ClosingOutOfRange, JudgingOutOfRange, NotAdmitted};
 
 use arithmetic::cause::Cause;
-use closing::operations::{ClosingOperation, JudgingOperation};
+use closing::operation::ClosingOperation;
+use closing::verdict::JudgingOperation;
 use row::cell::OutOfRange;
 use std::fmt;
 

@@ -3,8 +3,8 @@ use Rattle.std.specs.Prelude.{ℤ, Ok, Err, Result}
 use Rattle.arithmetic.specs.Meaning.{Meaning, Number}
 use Rattle.coefficients.specs.Row.{Trial, done, stopped}
 use Rattle.coefficients.specs.Closing.{Closed, Verdict as Defined, right, wrong, left_open}
-use Rattle.closing.specs.declared.operations.ClosingOperation.{ClosingOperation}
-use Rattle.closing.specs.declared.operations.JudgingOperation.{JudgingOperation}
+use Rattle.closing.specs.declared.operation.ClosingOperation.{ClosingOperation}
+use Rattle.closing.specs.declared.verdict.JudgingOperation.{JudgingOperation}
 use Rattle.closing.specs.declared.verdict.Verdict.{Verdict}
 use Rattle.closing.specs.declared.verdict.Verdict.TheVariants.{Right, Wrong, Open}
 use Rattle.closing.specs.Operations.{closing_number, judging_number}

@@ -1,9 +1,9 @@
 -- The number of each operation of closing, and of judging.
 use Rattle.std.specs.Prelude.{ℕ}
-use Rattle.closing.specs.declared.operations.ClosingOperation.{ClosingOperation}
-use Rattle.closing.specs.declared.operations.ClosingOperation.TheVariants.{ValueSplit, Gamma, GammaProduct, LiftedProduct, BoundSum, Bound}
-use Rattle.closing.specs.declared.operations.JudgingOperation.{JudgingOperation}
-use Rattle.closing.specs.declared.operations.JudgingOperation.TheVariants.{Difference, NearSum, Near, FarSum, Far}
+use Rattle.closing.specs.declared.operation.ClosingOperation.{ClosingOperation}
+use Rattle.closing.specs.declared.operation.ClosingOperation.TheVariants.{ValueSplit, Gamma, GammaProduct, LiftedProduct, BoundSum, Bound}
+use Rattle.closing.specs.declared.verdict.JudgingOperation.{JudgingOperation}
+use Rattle.closing.specs.declared.verdict.JudgingOperation.TheVariants.{Difference, NearSum, Near, FarSum, Far}
 
 abbrev pub closing_number : ClosingOperation → ℕ
 closing_number ValueSplit = 1

@@ -10,12 +10,12 @@ ghost use Rattle.row.specs.Reading.{reading, values, AreNumbers};
 ghost use Rattle.closing.specs.Closings.{closed_values, closing, judging, GivesNumbers};
 
 use arithmetic::Arithmetic;
-use operations::{ClosingOperation, JudgingOperation};
+use operation::ClosingOperation;
 use row::cell::Cell;
 use row::read;
-use verdict::Verdict;
+use verdict::{JudgingOperation, Verdict};
 
-pub mod operations;
+pub mod operation;
 pub mod verdict;
 
 // v for even k, its negative for odd k.

@@ -1,5 +1,6 @@
-// The verdict on a claim.
-ghost use Rattle.std.specs.Prelude.{Some};
+// The verdict on a claim, and the operations that come before it.
+ghost use Rattle.std.specs.Prelude.{◌≡◌, Some};
+ghost use Rattle.closing.specs.Operations.{judging_number};
 ghost use Rattle.closing.specs.Words.{verdict_word};
 
 use std::fmt;
@@ -24,5 +25,29 @@ impl fmt::Display for Verdict {
             Verdict::Open => "open",
         };
         write!(f, "{word}")
+    }
+}
+
+// The five operations of judging, for a claim on a value with the bound b, and the tolerance T.
+#[derive(Clone, Copy, PartialEq, Eq, Debug)]
+pub enum JudgingOperation {
+    // the claim less the value, whose size is d
+    Difference = 1,
+    // d + b
+    NearSum = 2,
+    // near: that sum lifted by 3
+    Near = 3,
+    // T + b
+    FarSum = 4,
+    // far: that sum lifted by 3
+    Far = 5,
+}
+
+impl JudgingOperation {
+    // The number of an operation, from 1 to 5.
+    pub fn number(self) -> u8
+        ensures { result ≡ judging_number self }
+    {
+        self as u8
     }
 }

@@ -18,23 +18,23 @@ pub struct Cell<T> {
 #[derive(Clone, Copy, PartialEq, Eq, Debug)]
 pub enum Operation {
     // p and β: x S₀, with its error part
-    ProductSplit,
+    ProductSplit = 1,
     // S′ and σ: S + p, with its error part
-    SumSplit,
+    SumSplit = 2,
     // w: β + σ, the rounding error of the new sum
-    LocalError,
+    LocalError = 3,
     // g: C + w
-    CorrectionSum,
+    CorrectionSum = 4,
     // h: x C₀
-    CorrectionProduct,
+    CorrectionProduct = 5,
     // C′: g + h
-    Correction,
+    Correction = 6,
     // f: E + |w|
-    ErrorsSum,
+    ErrorsSum = 7,
     // t: |x| E₀
-    ErrorsProduct,
+    ErrorsProduct = 8,
     // E′: f + t
-    Errors,
+    Errors = 9,
 }
 
 impl Operation {
@@ -42,17 +42,7 @@ impl Operation {
     pub fn number(self) -> u8
         ensures { result ≡ operation_number self }
     {
-        match self {
-            Operation::ProductSplit => 1,
-            Operation::SumSplit => 2,
-            Operation::LocalError => 3,
-            Operation::CorrectionSum => 4,
-            Operation::CorrectionProduct => 5,
-            Operation::Correction => 6,
-            Operation::ErrorsSum => 7,
-            Operation::ErrorsProduct => 8,
-            Operation::Errors => 9,
-        }
+        self as u8
     }
 }
 
