@@ -22,16 +22,20 @@ Tells m Cleared d = d ≡ cleared
 Tells m (Refused r) d = d ≡ told_refusal r
 
 -- ---- an examination: a question is issued, a claim is marked by it, and where the marking is refused the question is withdrawn
+-- the step of a marking; where it is refused, its answer and the state after the question is withdrawn
 abbrev pub withdrawn_if_refused : Making → ℕ → Step → Step
 withdrawn_if_refused b k marking = cond (accepted marking.answer) marking (record { answer = marking.answer; then = (step b marking.then (withdraw b.bench_number k)).then })
 
+-- a marking by an issued question of order k, which is spent or withdrawn
 abbrev pub settled : Making → State → ℕ → List ℕ → List ℕ → Step
 settled b s k claim tolerance = withdrawn_if_refused b k (step b s (mark b.bench_number k claim tolerance))
 
+-- the step of an issuing that is refused, else that of the marking after it
 abbrev pub settled_if_issued : Making → ℕ → List ℕ → List ℕ → Step → Step
 settled_if_issued b k claim tolerance issuing = cond (accepted issuing.answer) (settled b issuing.then k claim tolerance) issuing
 
--- ---- the step of each call
+-- ---- a call
+-- the step of each call
 abbrev pub worked : Making → State → Call → Step
 worked b s (Add zero) = step b s (add zero.bytes)
 worked b s (Ask order) = step b s (ask order)

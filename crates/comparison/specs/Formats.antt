@@ -4,6 +4,7 @@ use Rattle.comparison.specs.declared.format.Format.{Format}
 use Rattle.comparison.specs.declared.format.Format.TheVariants.{Binary64, Decimal}
 use Rattle.comparison.specs.declared.format.NotAFormat.{NotAFormat}
 
+-- the word of each format
 abbrev pub format_name : Format → List ℕ
 format_name Binary64 = codes "binary64"
 format_name Decimal = codes "decimal"
