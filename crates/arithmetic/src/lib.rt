@@ -11,7 +11,10 @@ use cause::Cause;
 
 pub mod cause;
 
-// The five rounded operations take `&mut self`: an arithmetic may count what it is asked. The others are exact.
+// The five rounded operations take `&mut self`: an arithmetic may count what it is asked. The others are exact. So each of them, and
+// each function above that calls them, promises that the arithmetic is set as before (`Stays`): no type says what stays behind `&mut`.
+// Which values of `Number` are numbers of the arithmetic depends on its own value, so operands are required to be numbers: no invariant
+// of their type could say it.
 pub trait Arithmetic: Sized {
     type Number: Copy;
     // what a cell keeps of a number
@@ -21,7 +24,7 @@ pub trait Arithmetic: Sized {
     ghost setting: { Self → Setting Self.Plain };
     // the multiple of 1/Q that a number stands for
     ghost value: { Self.Number → ℤ };
-    // the arithmetic's limits are lawful
+    // the arithmetic's limits are lawful: a condition on its value and no invariant of its type, as the project's rules have it
     ghost lawful: { Self → Type 0 };
 
     // The rounded sum.
@@ -70,7 +73,7 @@ pub trait Arithmetic: Sized {
         requires right { IsNumber (setting self.old).meaning (value b) }
         ensures { Splits setting lawful value self.old self.new result (product_split (setting self.old).meaning (value a) (value b)) };
 
-    // a lifted by k: a / (1 − k u), rounded.
+    // a lifted by k: a / (1 − k u), rounded. (k is at most 192; a type for it would ask the same where a k is made.)
     fn lift(&mut self, a: Self::Number, k: u8) -> Option<Self::Number>
         requires law { lawful self.old }
         requires number { IsNumber (setting self.old).meaning (value a) }

@@ -71,7 +71,8 @@ impl From<JudgingOperation> for Refusal {
     }
 }
 
-// The details of a refusal that has some: numbers, in the order in which they are told.
+// The details of a refusal that has some, in the order in which they are told. An operation and a cause are numbers here, since the
+// operations of three types are told alike.
 #[derive(Clone, Copy, PartialEq, Eq, Debug)]
 pub enum Details {
     Operation(u8),
@@ -80,7 +81,7 @@ pub enum Details {
 }
 
 impl Refusal {
-    // The number of a refusal.
+    // The number of a refusal. (By a match: a variant with fields has no number of its own.)
     pub fn number(self) -> u8
         ensures { result ≡ refusal_number self }
     {

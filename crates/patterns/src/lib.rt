@@ -45,7 +45,7 @@ impl fmt::Display for Pattern {
     }
 }
 
-// The value of a hexadecimal digit.
+// The value of a hexadecimal digit, in upper case alone; the library's `to_digit` takes both cases.
 fn digit(c: u8) -> Option<u8>
     ensures { result ≡ digit_value c }
 {

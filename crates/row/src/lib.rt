@@ -100,7 +100,8 @@ fn cell_of<P: Copy>(first: Cell<P>, rest: &[Cell<P>], order: usize) -> Cell<P>
 }
 
 // Writes the orders n down to 1 of an addition that was tried and not refused. Order k stands at rest[k − 1]; the cell of order 0 is
-// given beside them, to be read.
+// given beside them, to be read. (A loop of its own: one function with a closure for each new cell would have to take the row to be
+// written for a trial too, and to state what the closure does with each cell.)
 fn write_orders<A: Arithmetic>(
     arith: &mut A,
     x: A::Number,

@@ -11,7 +11,7 @@ pub enum Answer {
     Truth(bool),
     Refused,
     NotAdmitted(Cause),
-    // an operand is none that the operation has
+    // an operand is none that the operation has: neither a result nor a refusal, so no `Option` would do
     NoOperand,
 }
 

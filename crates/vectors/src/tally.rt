@@ -16,6 +16,7 @@ pub enum Operation {
     Comparison,
 }
 
+// A count for each, by name, as what is counted is defined; an array of them would only add an index to prove.
 #[derive(Clone, Copy)]
 pub struct Tally {
     sum: Score,
