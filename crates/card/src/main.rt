@@ -19,7 +19,7 @@ use std::io;
 mod figures;
 mod line;
 
-// 2^900, the largest number
+// 2^900, the largest number. (`refusals` has it too: no crate that both know should speak of binary64's floats.)
 const LARGEST: f64 = 8.452712498170644e270;
 
 // Adds a zero.
