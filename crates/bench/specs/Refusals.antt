@@ -1,10 +1,10 @@
 -- Each refusal has its number and its details here, once.
-use Rattle.std.specs.Prelude.{ℕ, List, [], ◌∷◌, Option, None, Some}
+use Rattle.std.specs.Prelude.{ℕ, List, [], ◌∷◌, ◌++◌, Option, None, Some, codes, decimal}
 use Rattle.arithmetic.specs.Causes.{cause_number}
 use Rattle.row.specs.Operations.{operation_number}
 use Rattle.closing.specs.Operations.{closing_number, judging_number}
 use Rattle.bench.specs.declared.refusal.Details.{Details}
-use Rattle.bench.specs.declared.refusal.Details.TheVariants.{Operation, OrderAndOperation, CauseNumber}
+use Rattle.bench.specs.declared.refusal.Details.TheVariants.{Adding, Closing, Judging, Admitting}
 use Rattle.bench.specs.declared.refusal.Refusal.{Refusal}
 use Rattle.bench.specs.declared.refusal.Refusal.TheVariants.{RowLength, QuestionOut, Full, ZeroOutOfLimits, AddingOutOfRange, OrderAboveRow, OrderAboveZeros, ClosingOutOfRange, TooManyOut, NotOut, ToleranceBelowZero, JudgingOutOfRange, NotAdmitted}
 
@@ -23,24 +23,41 @@ refusal_number ToleranceBelowZero = 11
 refusal_number (JudgingOutOfRange operation) = 12
 refusal_number (NotAdmitted cause) = 17
 
-abbrev pub refusal_details : Refusal → List ℕ
-refusal_details RowLength = []
-refusal_details QuestionOut = []
-refusal_details Full = []
-refusal_details ZeroOutOfLimits = []
-refusal_details (AddingOutOfRange at) = at.order ∷ operation_number at.operation ∷ []
-refusal_details OrderAboveRow = []
-refusal_details OrderAboveZeros = []
-refusal_details (ClosingOutOfRange operation) = closing_number operation ∷ []
-refusal_details TooManyOut = []
-refusal_details NotOut = []
-refusal_details ToleranceBelowZero = []
-refusal_details (JudgingOutOfRange operation) = judging_number operation ∷ []
-refusal_details (NotAdmitted cause) = cause_number cause ∷ []
+-- the details of a refusal, by their kind
+abbrev pub details_of : Refusal → Option Details
+details_of RowLength = None
+details_of QuestionOut = None
+details_of Full = None
+details_of ZeroOutOfLimits = None
+details_of (AddingOutOfRange at) = Some (Adding at)
+details_of OrderAboveRow = None
+details_of OrderAboveZeros = None
+details_of (ClosingOutOfRange operation) = Some (Closing operation)
+details_of TooManyOut = None
+details_of NotOut = None
+details_of ToleranceBelowZero = None
+details_of (JudgingOutOfRange operation) = Some (Judging operation)
+details_of (NotAdmitted cause) = Some (Admitting cause)
 
 -- details as they are told, in their order
 abbrev pub told_details : Option Details → List ℕ
 told_details None = []
-told_details (Some (Operation operation)) = operation ∷ []
-told_details (Some (OrderAndOperation order operation)) = order ∷ operation ∷ []
-told_details (Some (CauseNumber cause)) = cause ∷ []
+told_details (Some (Adding at)) = at.order ∷ operation_number at.operation ∷ []
+told_details (Some (Closing operation)) = closing_number operation ∷ []
+told_details (Some (Judging operation)) = judging_number operation ∷ []
+told_details (Some (Admitting cause)) = cause_number cause ∷ []
+
+abbrev pub refusal_details : Refusal → List ℕ
+refusal_details r = told_details (details_of r)
+
+-- how details are shown: each after a space
+abbrev pub details_text : Option Details → List ℕ
+details_text None = []
+details_text (Some (Adding at)) = codes " " ++ (decimal at.order ++ (codes " " ++ decimal (operation_number at.operation)))
+details_text (Some (Closing operation)) = codes " " ++ decimal (closing_number operation)
+details_text (Some (Judging operation)) = codes " " ++ decimal (judging_number operation)
+details_text (Some (Admitting cause)) = codes " " ++ decimal (cause_number cause)
+
+-- how a refusal is shown: its number, then its details
+abbrev pub refusal_text : Refusal → List ℕ
+refusal_text r = decimal (refusal_number r) ++ details_text (details_of r)

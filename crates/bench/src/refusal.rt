@@ -1,6 +1,6 @@
 // Why a call is refused: the first of its questions that is answered no.
-ghost use Rattle.std.specs.Prelude.{◌≡◌};
-ghost use Rattle.bench.specs.Refusals.{refusal_number, refusal_details, told_details};
+ghost use Rattle.std.specs.Prelude.{◌≡◌, Some};
+ghost use Rattle.bench.specs.Refusals.{refusal_number, details_of, refusal_text};
 ghost use Rattle.bench.specs.declared.refusal.Refusal.TheVariants.{AddingOutOfRange, ClosingOutOfRange, JudgingOutOfRange, NotAdmitted};
 
 use arithmetic::cause::Cause;
@@ -71,13 +71,14 @@ impl From<JudgingOperation> for Refusal {
     }
 }
 
-// The details of a refusal that has some, in the order in which they are told. An operation and a cause are numbers here, since the
-// operations of three types are told alike.
-#[derive(Clone, Copy, PartialEq, Eq, Debug)]
+// The details of a refusal that has some.
+#[derive(Clone, Copy)]
 pub enum Details {
-    Operation(u8),
-    OrderAndOperation(usize, u8),
-    CauseNumber(u8),
+    // the order and the operation at which an addition left its range
+    Adding(OutOfRange),
+    Closing(ClosingOperation),
+    Judging(JudgingOperation),
+    Admitting(Cause),
 }
 
 impl Refusal {
@@ -104,16 +105,13 @@ impl Refusal {
 
     // Its details, if it has any.
     pub fn details(self) -> Option<Details>
-        ensures { told_details result ≡ refusal_details self }
+        ensures { result ≡ details_of self }
     {
         let details = match self {
-            Refusal::AddingOutOfRange(at) => Details::OrderAndOperation(
-                at.order,
-                at.operation.number(),
-            ),
-            Refusal::ClosingOutOfRange(operation) => Details::Operation(operation.number()),
-            Refusal::JudgingOutOfRange(operation) => Details::Operation(operation.number()),
-            Refusal::NotAdmitted(cause) => Details::CauseNumber(cause.number()),
+            Refusal::AddingOutOfRange(at) => Details::Adding(at),
+            Refusal::ClosingOutOfRange(operation) => Details::Closing(operation),
+            Refusal::JudgingOutOfRange(operation) => Details::Judging(operation),
+            Refusal::NotAdmitted(cause) => Details::Admitting(cause),
             _ => return None,
         };
         Some(details)
@@ -122,14 +120,17 @@ impl Refusal {
 
 // A refusal's number, then its details, with one space between two of them.
 impl fmt::Display for Refusal {
+    ghost output = { λ r. Some (refusal_text r) };
+
     fn fmt<W: fmt::Write>(&self, f: &mut fmt::Formatter<W>) -> fmt::Result {
         let number = self.number();
         write!(f, "{number}")?;
         match self.details() {
             None => Ok(()),
-            Some(Details::Operation(operation)) => write!(f, " {operation}"),
-            Some(Details::OrderAndOperation(order, operation)) => write!(f, " {order} {operation}"),
-            Some(Details::CauseNumber(cause)) => write!(f, " {cause}"),
+            Some(Details::Adding(at)) => write!(f, " {} {}", at.order, at.operation.number()),
+            Some(Details::Closing(operation)) => write!(f, " {}", operation.number()),
+            Some(Details::Judging(operation)) => write!(f, " {}", operation.number()),
+            Some(Details::Admitting(cause)) => write!(f, " {}", cause.number()),
         }
     }
 }

@@ -1,6 +1,7 @@
-// What a call answers.
-ghost use Rattle.std.specs.Prelude.{◌≡◌};
+// What a call answers, refused or not: answers of both kinds are shown and compared alike, so it is no `Result`; `outcome` is one.
+ghost use Rattle.std.specs.Prelude.{◌≡◌, Some};
 ghost use Rattle.calls.specs.Outcomes.{outcome_of};
+ghost use Rattle.calls.specs.Texts.{answer_text};
 
 use bench::refusal::Refusal;
 use closing::verdict::Verdict;
@@ -30,6 +31,8 @@ impl Answer {
 }
 
 impl fmt::Display for Answer {
+    ghost output = { λ a. Some (answer_text a) };
+
     fn fmt<W: fmt::Write>(&self, f: &mut fmt::Formatter<W>) -> fmt::Result {
         match self {
             Answer::Added(number) => write!(f, "{number}"),

@@ -19,7 +19,7 @@ use std::io;
 mod figures;
 mod line;
 
-// 2^900, the largest number. (`refusals` has it too: no crate that both know should speak of binary64's floats.)
+// 2^900, the largest number. (`refusals` has it too; `binary64` keeps it by its bits, and a float of it there would be a third form.)
 const LARGEST: f64 = 8.452712498170644e270;
 
 // Adds a zero.

@@ -19,7 +19,7 @@ const EMPTY: Cell<u64> = Cell {
     errors: 0,
 };
 
-// 2^900, the largest number, and 2^901
+// 2^900, the largest number (`card` has it too), and 2^901
 const LARGEST: f64 = 8.452712498170644e270;
 
 const TOO_LARGE: f64 = 1.6905424996341288e271;
@@ -76,7 +76,7 @@ fn added_65(bench: &mut Bench<Binary64>) -> Result<(), Refusal> {
     added(bench, 0.0)
 }
 
-// 9: questions are issued until one is refused, and then all are withdrawn.
+// 9: questions are issued until one is refused, and then all are withdrawn. (By recursion: a `Vec` of questions could be let go.)
 fn issued_33(bench: &mut Bench<Binary64>, more: u8) -> Result<(), Refusal>
     ensures number { bench.new.number ≡ bench.old.number }
     ensures out { bench.new.out ≡ bench.old.out }

@@ -1,4 +1,4 @@
-// What an operation answers.
+// What an operation answers, refused or not: answers of all kinds are shown and compared alike, so it is no `Result`.
 use arithmetic::cause::Cause;
 use patterns::Pattern;
 use std::fmt;
@@ -11,7 +11,7 @@ pub enum Answer {
     Truth(bool),
     Refused,
     NotAdmitted(Cause),
-    // an operand is none that the operation has: neither a result nor a refusal, so no `Option` would do
+    // an operand is none that the operation has
     NoOperand,
 }
 
