@@ -1,4 +1,7 @@
 // A section of vectors: those that are worked through the arithmetic of one format.
+ghost use Rattle.std.specs.Prelude.{◌≡◌};
+ghost use Rattle.vectors.specs.Tallies.{no_vectors};
+
 use crate::answer::Answer;
 use crate::tally::{Operation, Tally};
 use crate::vector::parse;
@@ -23,7 +26,9 @@ impl fmt::Display for Section {
 }
 
 impl Section {
-    pub fn new(format: Format) -> Section {
+    pub fn new(format: Format) -> Section
+        ensures { (result.format ≡ format) × (result.tally ≡ no_vectors) }
+    {
         Section {
             format,
             tally: Tally::new(),
