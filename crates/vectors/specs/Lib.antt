@@ -1,2 +1,3 @@
 pub mod Tallies
 pub mod Operands
+pub mod Texts

@@ -1,4 +1,7 @@
 // What an operation answers, refused or not: answers of all kinds are shown and compared alike, so it is no `Result`.
+ghost use Rattle.std.specs.Prelude.{Some};
+ghost use Rattle.vectors.specs.Texts.{answer_text};
+
 use arithmetic::cause::Cause;
 use patterns::Pattern;
 use std::fmt;
@@ -16,6 +19,8 @@ pub enum Answer {
 }
 
 impl fmt::Display for Answer {
+    ghost output = { λ a. Some (answer_text a) };
+
     fn fmt<W: fmt::Write>(&self, f: &mut fmt::Formatter<W>) -> fmt::Result {
         match self {
             Answer::Number(number) => write!(f, "{number}"),
