@@ -1,5 +1,5 @@
 -- Each refusal has its number and its details here, once.
-use Rattle.std.specs.Prelude.{ℕ, List, [], ◌∷◌, ◌++◌, Option, None, Some, codes, decimal}
+use Rattle.std.specs.Prelude.{ℕ, List, [], ◌∷◌, ◌++◌, flat_map, Option, None, Some, codes, decimal}
 use Rattle.arithmetic.specs.Causes.{cause_number}
 use Rattle.row.specs.Operations.{operation_number}
 use Rattle.closing.specs.Operations.{closing_number, judging_number}
@@ -50,14 +50,10 @@ told_details (Some (Admitting cause)) = cause_number cause ∷ []
 abbrev pub refusal_details : Refusal → List ℕ
 refusal_details r = told_details (details_of r)
 
--- how details are shown: each after a space
-abbrev pub details_text : Option Details → List ℕ
-details_text None = []
-details_text (Some (Adding at)) = codes " " ++ (decimal at.order ++ (codes " " ++ decimal (operation_number at.operation)))
-details_text (Some (Closing operation)) = codes " " ++ decimal (closing_number operation)
-details_text (Some (Judging operation)) = codes " " ++ decimal (judging_number operation)
-details_text (Some (Admitting cause)) = codes " " ++ decimal (cause_number cause)
+-- a detail is shown after a space
+abbrev pub detail_text : ℕ → List ℕ
+detail_text d = codes " " ++ decimal d
 
 -- how a refusal is shown: its number, then its details
 abbrev pub refusal_text : Refusal → List ℕ
-refusal_text r = decimal (refusal_number r) ++ details_text (details_of r)
+refusal_text r = decimal (refusal_number r) ++ flat_map detail_text (refusal_details r)

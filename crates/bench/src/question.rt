@@ -19,12 +19,16 @@ impl Drop for Question {
 }
 
 impl Question {
-    // Ends a question that is marked or withdrawn, and answers its order.
-    pub(crate) fn spend(self) -> u8
-        ensures { result ≡ self.order }
+    // The order that it is for.
+    pub fn order(&self) -> u8
+        ensures { result ≡ self.now.order }
     {
-        let Question { bench: _, order } = self;
-        order
+        self.order
+    }
+
+    // Ends a question that is marked or withdrawn.
+    pub(crate) fn spend(self) {
+        let Question { bench: _, order: _ } = self;
     }
 }
 

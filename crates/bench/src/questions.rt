@@ -62,7 +62,7 @@ impl<'r, A: Arithmetic> Bench<'r, A> {
     {
         match self.judge_claim(arith, &question, claim, tolerance) {
             Ok(verdict) => {
-                let _ = question.spend();
+                question.spend();
                 self.out -= 1;
                 Ok(verdict)
             }
@@ -132,7 +132,7 @@ impl<'r, A: Arithmetic> Bench<'r, A> {
                 refusal: Refusal::NotOut,
             });
         }
-        let _ = question.spend();
+        question.spend();
         self.out -= 1;
         Ok(())
     }

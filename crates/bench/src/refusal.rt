@@ -1,11 +1,14 @@
 // Why a call is refused: the first of its questions that is answered no.
-ghost use Rattle.std.specs.Prelude.{◌≡◌, Some};
-ghost use Rattle.bench.specs.Refusals.{refusal_number, details_of, refusal_text};
+ghost use Rattle.std.specs.Prelude.{◌≡◌, ◌≤◌, ◌+◌, ◌++◌, Some};
+ghost use Rattle.arrayvec.specs.ArrayString.{array_string_len};
+ghost use Rattle.bench.specs.Refusals.{refusal_number, details_of, detail_text, refusal_text};
 ghost use Rattle.bench.specs.declared.refusal.Refusal.TheVariants.{AddingOutOfRange, ClosingOutOfRange, JudgingOutOfRange, NotAdmitted};
 
 use arithmetic::cause::Cause;
+use arrayvec::ArrayString;
 use closing::operation::ClosingOperation;
 use closing::verdict::JudgingOperation;
+use itoa::Buffer;
 use row::cell::OutOfRange;
 use std::fmt;
 
@@ -118,19 +121,41 @@ impl Refusal {
     }
 }
 
-// A refusal's number, then its details, with one space between two of them.
+// Appends a detail, after a space.
+pub fn push_detail<const CAPACITY: usize>(text: &mut ArrayString<CAPACITY>, detail: usize)
+    requires { array_string_len text.old + 21 ≤ CAPACITY }
+    ensures detail { text.new.bytes ≡ text.old.bytes ++ detail_text detail }
+    ensures room { array_string_len text.new ≤ array_string_len text.old + 21 }
+{
+    text.push(' ');
+    text.push_str(Buffer::new().format(detail));
+}
+
+impl Refusal {
+    // Its number, then its details, with one space between two of them.
+    pub fn text(self) -> ArrayString<45>
+        ensures { result.bytes ≡ refusal_text self }
+    {
+        let mut text = ArrayString::new();
+        text.push_str(Buffer::new().format(self.number()));
+        match self.details() {
+            None => {}
+            Some(Details::Adding(at)) => {
+                push_detail(&mut text, at.order);
+                push_detail(&mut text, at.operation.number().into());
+            }
+            Some(Details::Closing(operation)) => push_detail(&mut text, operation.number().into()),
+            Some(Details::Judging(operation)) => push_detail(&mut text, operation.number().into()),
+            Some(Details::Admitting(cause)) => push_detail(&mut text, cause.number().into()),
+        }
+        text
+    }
+}
+
 impl fmt::Display for Refusal {
     ghost output = { λ r. Some (refusal_text r) };
 
     fn fmt<W: fmt::Write>(&self, f: &mut fmt::Formatter<W>) -> fmt::Result {
-        let number = self.number();
-        write!(f, "{number}")?;
-        match self.details() {
-            None => Ok(()),
-            Some(Details::Adding(at)) => write!(f, " {} {}", at.order, at.operation.number()),
-            Some(Details::Closing(operation)) => write!(f, " {}", operation.number()),
-            Some(Details::Judging(operation)) => write!(f, " {}", operation.number()),
-            Some(Details::Admitting(cause)) => write!(f, " {}", cause.number()),
-        }
+        f.write_str(self.text().as_str())
     }
 }

@@ -1,5 +1,5 @@
 // The verdict on a claim, and the operations that come before it.
-ghost use Rattle.std.specs.Prelude.{◌≡◌, Some};
+ghost use Rattle.std.specs.Prelude.{◌≡◌, ◌≤◌, Some, length};
 ghost use Rattle.closing.specs.Operations.{judging_number};
 ghost use Rattle.closing.specs.Words.{verdict_word};
 
@@ -15,16 +15,25 @@ pub enum Verdict {
     Open,
 }
 
+impl Verdict {
+    // The word that it is shown by.
+    pub fn word(self) -> &'static str
+        ensures word { result.now ≡ verdict_word self }
+        ensures short { length result.now ≤ 5 }
+    {
+        match self {
+            Verdict::Right => "right",
+            Verdict::Wrong => "wrong",
+            Verdict::Open => "open",
+        }
+    }
+}
+
 impl fmt::Display for Verdict {
     ghost output = { λ v. Some (verdict_word v) };
 
     fn fmt<W: fmt::Write>(&self, f: &mut fmt::Formatter<W>) -> fmt::Result {
-        let word = match self {
-            Verdict::Right => "right",
-            Verdict::Wrong => "wrong",
-            Verdict::Open => "open",
-        };
-        write!(f, "{word}")
+        f.write_str(self.word())
     }
 }
 

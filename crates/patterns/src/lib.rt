@@ -2,11 +2,13 @@
 #![tactic(auto)]
 
 ghost use lib.Ieee.{binary64};
-ghost use Rattle.std.specs.Prelude.{◌≡◌, Some, to_bits};
+ghost use Rattle.std.specs.Prelude.{◌≡◌, ◌<◌, [], ◌∷◌, ◌++◌, true, Some, to_bits};
+ghost use Rattle.std.specs.Fmt.{digit_glyph};
 ghost use Rattle.std.specs.Float.{NotNan};
-ghost use Rattle.std.specs.Int.{w64, to_be_bytes};
+ghost use Rattle.std.specs.Int.{w16, w32, w64, to_be_bytes, cast_unsigned};
 ghost use Rattle.patterns.specs.Patterns.{digit_value, byte_value, Reads, pattern_text};
 
+use arrayvec::ArrayString;
 use std::fmt;
 use std::str::FromStr;
 
@@ -29,19 +31,52 @@ impl Pattern {
             bytes: x.to_be_bytes(),
         }
     }
+
+    // The pattern of a decimal number, significand × 10^exponent: both in two's complement, the highest byte first, and two zero bytes.
+    pub fn of_decimal(significand: i32, exponent: i16) -> Pattern
+        ensures { result.bytes ≡ to_be_bytes w32 (cast_unsigned w32 significand) ++ (to_be_bytes w16 (cast_unsigned w16 exponent) ++ (0 ∷ 0 ∷ [])) }
+    {
+        let [m0, m1, m2, m3] = significand.to_be_bytes();
+        let [e0, e1] = exponent.to_be_bytes();
+        Pattern {
+            bytes: [m0, m1, m2, m3, e0, e1, 0, 0],
+        }
+    }
+
+    // The sixteen digits that it is shown by.
+    #[tactic(auto, using(crate::proofs::Digits::byte_shown, std::proofs::lemmas::Str::encode_ascii))]
+    pub fn text(&self) -> ArrayString<16>
+        ensures { result.bytes ≡ pattern_text self.now }
+    {
+        let mut text = ArrayString::new();
+        // by an index, as the project's rules have it for the digits of a pattern
+        for i in 0..8 {
+            let byte = self.bytes[i];
+            text.push(glyph(byte / 16));
+            text.push(glyph(byte % 16));
+        }
+        text
+    }
 }
 
 impl fmt::Display for Pattern {
     ghost output = { λ p. Some (pattern_text p) };
 
-    #[tactic(auto, using(crate::proofs::Digits::byte_written))]
     fn fmt<W: fmt::Write>(&self, f: &mut fmt::Formatter<W>) -> fmt::Result {
-        // by an index, as the project's rules have it for the digits of a pattern
-        for i in 0..8 {
-            let byte = self.bytes[i];
-            write!(f, "{byte:02X}")?;
-        }
-        Ok(())
+        f.write_str(self.text().as_str())
+    }
+}
+
+// The character of a hexadecimal digit, in upper case.
+fn glyph(value: u8) -> char
+    requires { value < 16 }
+    ensures glyph { result ≡ digit_glyph true value }
+    ensures ascii { result < 128 }
+{
+    if value < 10 {
+        char::from(b'0' + value)
+    } else {
+        char::from(b'A' + (value - 10))
     }
 }
 

@@ -4,8 +4,8 @@
 ghost use Rattle.std.specs.Prelude.{◌≡◌, ◌-◌, ◌<◌, ◌≤◌, min, ◌∷◌, length, replicate, Ok, slice_index_or};
 ghost use Rattle.arithmetic.specs.Meaning.{Number as IsNumber};
 ghost use Rattle.arithmetic.specs.Setting.{Stays};
-ghost use Rattle.coefficients.specs.Row.{new_cell, row_after};
-ghost use Rattle.row.specs.Reading.{reading, readings, values, AreNumbers};
+ghost use Rattle.coefficients.specs.Row.{no_cell, new_cell, row_after};
+ghost use Rattle.row.specs.Reading.{reading, readings, values, plain_cell, AreNumbers};
 ghost use Rattle.row.specs.Answers.{tried, WritesPlain, Tells, Added, Renewed};
 
 use arithmetic::Arithmetic;
@@ -27,6 +27,7 @@ pub fn read<A: Arithmetic>(arith: &A, cell: Cell<A::Plain>) -> Cell<A::Number>
 }
 
 // Cell j after the zero x, from the numbers of the old cells j and j − 1, or the operation that left its range.
+#[inline(always)]
 #[tactic(auto, unfolding(coefficients::specs::Row::new_cell))]
 fn update<A: Arithmetic>(
     arith: &mut A,
@@ -152,6 +153,20 @@ fn fill<T: Copy>(row: &mut [T], value: T)
     row.fill_with(|| value);
 }
 
+// A cell of zeros, as the arithmetic writes them.
+pub fn empty<A: Arithmetic>(arith: &A) -> Cell<A::Plain>
+    requires law { A.lawful arith.now }
+    ensures plain { result ≡ plain_cell (A.setting arith.now) no_cell }
+    ensures reads { reading (A.setting arith.now) result ≡ no_cell }
+{
+    let zero = arith.plain(arith.zero());
+    Cell {
+        sum: zero,
+        correction: zero,
+        errors: zero,
+    }
+}
+
 // Makes a row new, whatever it held.
 #[tactic(auto, using(crate::proofs::Renewal::renewed_cells, crate::proofs::Renewal::renewed_reads, crate::proofs::Renewal::first_set_long))]
 pub fn renew<A: Arithmetic>(arith: &A, row: &mut [Cell<A::Plain>])
@@ -159,13 +174,10 @@ pub fn renew<A: Arithmetic>(arith: &A, row: &mut [Cell<A::Plain>])
     requires some { 0 < length row.old }
     ensures { Renewed (A.setting arith.now) row.old row.new }
 {
-    let one = arith.plain(arith.one());
-    let zero = arith.plain(arith.zero());
-    let zeros = Cell {
-        sum: zero,
-        correction: zero,
-        errors: zero,
-    };
+    let zeros = empty(arith);
     fill(row, zeros);
-    row[0] = Cell { sum: one, ..zeros };
+    row[0] = Cell {
+        sum: arith.plain(arith.one()),
+        ..zeros
+    };
 }
