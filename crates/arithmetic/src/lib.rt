@@ -28,6 +28,7 @@ pub trait Arithmetic: Sized {
     ghost lawful: { Self → Type 0 };
 
     // The rounded sum.
+    #[inline(always)]
     #[tactic(auto, using(crate::proofs::Mains::sum_refused, crate::proofs::Mains::sum_given))]
     fn sum(&mut self, a: Self::Number, b: Self::Number) -> Option<Self::Number>
         requires law { lawful self.old }
@@ -40,6 +41,7 @@ pub trait Arithmetic: Sized {
     }
 
     // The rounded product.
+    #[inline(always)]
     #[tactic(auto, using(crate::proofs::Mains::product_refused, crate::proofs::Mains::product_given))]
     fn product(&mut self, a: Self::Number, b: Self::Number) -> Option<Self::Number>
         requires law { lawful self.old }

@@ -1,6 +1,6 @@
 -- Products of floats answer what the definitions say. A product in range is rounded once, and TwoProduct's error part is exact
 -- there; a product out of range is refused unless a factor, and so the exact product, is zero.
-use Rattle.std.proofs.Common.{◌≡◌, ℕ, zero, suc, ◌*◌, ◌^◌, ◌<◌, ◌≤◌, T, ◌⊎◌, ℤ, pos, ◌+ℤ◌, ◌*ℤ◌, nat_abs, sym, refl, ap, ◌∙◌, subst, inl, inr, lt_irrefl, mul-pos, mul-zero, zero-mul, arith, pow_pos}
+use Rattle.std.proofs.Common.{◌≡◌, ℕ, zero, suc, ◌*◌, ◌^◌, ◌<◌, ◌≤◌, T, ◌⊎◌, ℤ, pos, ◌+ℤ◌, ◌*ℤ◌, nat_abs, sym, refl, ap, ◌∙◌, subst, inl, inr, lt_irrefl, mul-pos, mul-zero, zero-mul, arith, pow_pos, Bool, true, false, not, zero-le}
 use mathlib.Core.Option.{none, some}
 use lib.Ieee.{Float, Format, prec, low, mul}
 use lib.Ieee.Fits.{mul-fits, sub-fits}
@@ -63,6 +63,23 @@ module _ (f : Format) (least reach : ℕ) (m : Meaning) (M : Means f least reach
 
   pub product_nil : (magnitude f a ≡ 0) ⊎ (magnitude f b ≡ 0) → some (pos 0) ≡ product m (value f a) (value f b)
   product_nil z = product_zero m (value f a) (value f b) (pos 0) (rounds_product f least reach m M exact ∙ rounding_nil (prec f) exact (2 ^ low f) (pow_pos (low f)) (exact_nil z)) (exact_nil z)
+
+  -- ---- a product with a factor zero is a float that is zero, of either sign
+  nil_rounding : (magnitude f a ≡ 0) ⊎ (magnitude f b ≡ 0) → m.rounding exact (m.Q * m.Q) ≡ pos 0
+  nil_rounding z = rounds_product f least reach m M exact ∙ rounding_nil (prec f) exact (2 ^ low f) (pow_pos (low f)) (exact_nil z)
+
+  pub nil_finite : (magnitude f a ≡ 0) ⊎ (magnitude f b ≡ 0) → finite (mul f a b) ≡ true
+  nil_finite z = go (finite (mul f a b)) refl
+    where
+      go : (t : Bool) → finite (mul f a b) ≡ t → finite (mul f a b) ≡ true
+      go true e = e
+      go false e = absurd (product_rounded.over (subst (λ (t : Bool). T (not t)) (sym e) tt) (subst (λ (r : ℤ). nat_abs r ≤ 2 ^ reach) (sym (nil_rounding z)) zero-le))
+
+  pub nil_value : (magnitude f a ≡ 0) ⊎ (magnitude f b ≡ 0) → value f (mul f a b) ≡ pos 0
+  nil_value z = product_rounded.exact (subst T (sym (nil_finite z)) tt) ∙ nil_rounding z
+
+  pub nil_small : (magnitude f a ≡ 0) ⊎ (magnitude f b ≡ 0) → magnitude f (mul f a b) ≤ 2 ^ reach
+  nil_small z = subst (λ (n : ℕ). n ≤ 2 ^ reach) (sym (ap nat_abs (nil_value z)) ∙ abs_value f (mul f a b)) zero-le
 
   -- ---- the error part
   module _ (r : Ranged f least reach (mul f a b)) where

@@ -21,7 +21,7 @@ pub(crate) fn split_product(a: Double, b: Double) -> Option<(Double, Double)>
         return Some((Double { x }, Double { x: y }));
     }
     if one_zero(a.x, b.x) {
-        return Some((zero(), zero()));
+        return Some((Double { x }, zero()));
     }
     None
 }

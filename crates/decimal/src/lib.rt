@@ -42,10 +42,12 @@ impl Arithmetic for Decimal {
 
     ghost rules = { λ s h. TheRules.rules s.precision };
 
+    #[inline(always)]
     fn split_sum(&mut self, a: Scientific, b: Scientific) -> Option<(Scientific, Scientific)> {
         sums::split_sum(a, b, self.precision)
     }
 
+    #[inline(always)]
     fn split_product(&mut self, a: Scientific, b: Scientific) -> Option<(Scientific, Scientific)> {
         products::split_product(a, b, self.precision)
     }
@@ -86,6 +88,7 @@ impl Arithmetic for Decimal {
         bytes::read(p, self.precision)
     }
 
+    #[inline(always)]
     fn plain(&self, a: Scientific) -> Written {
         bytes::plain(a, self.precision)
     }

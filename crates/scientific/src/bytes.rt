@@ -7,7 +7,7 @@ ghost use Rattle.scientific.specs.Numbers.{units, Behind};
 ghost use Rattle.scientific.specs.Patterns.{meaning, reads, written, admission as admission_of};
 
 use crate::exact::zero;
-use crate::forms::exact_form;
+use crate::forms::formed;
 use crate::number::Scientific;
 use crate::precision::Precision;
 use crate::tables::{digits, power};
@@ -26,7 +26,7 @@ fn behind(e: i16, p: Precision) -> Option<u8>
     Some((e + 70) as u8)
 }
 
-// Whether a significand of so many digits and the zeros behind it are in the one form with as many digits as p has.
+// Whether a significand of this size and the zeros behind it are in the one form with as many digits as p has.
 fn in_form(size: u32, zeros: u8, p: Precision) -> bool
     ensures { result ≡ is_form p.digits size zeros }
 {
@@ -38,6 +38,7 @@ fn in_form(size: u32, zeros: u8, p: Precision) -> bool
 }
 
 // The number that M and e stand for, or the cause of their refusal.
+#[inline(always)]
 pub fn checked(m: i32, e: i16, p: Precision) -> Result<Scientific, Cause>
     ensures answer { admission units result ≡ admission_of p.digits m e }
     ensures number { Admits (meaning p.digits) units result }
@@ -46,7 +47,7 @@ pub fn checked(m: i32, e: i16, p: Precision) -> Result<Scientific, Cause>
     if !in_form(m.unsigned_abs(), zeros, p) {
         return Err(Cause::NotInOneForm);
     }
-    exact_form(m as i64, zeros as u32).ok_or(Cause::TooLarge)
+    formed(m as i64, zeros as u32).ok_or(Cause::TooLarge)
 }
 
 // The number that M and e stand for; 0 where they stand for none.
@@ -81,6 +82,7 @@ fn exponent(zeros: u32) -> i16
 }
 
 // The one M and e of a number: digits past as many as p has are cut off, and stand behind as zeros.
+#[inline(always)]
 pub fn plain(a: Scientific, p: Precision) -> Written
     requires { Number (meaning p.digits) (units a) }
     ensures answer { result ≡ written p.digits (units a) }

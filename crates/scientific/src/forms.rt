@@ -14,6 +14,7 @@ const MOST_ZEROS: u32 = 103;
 const LEAST_ZEROS: u8 = 23;
 
 // At most eight digits, followed by zeros within n or behind it, as a number; none above 10^40.
+#[inline(always)]
 pub fn exact_form(n: i64, zeros: u32) -> Option<Scientific>
     requires short { Digits 10 8 (unsigned_abs n) }
     requires few { zeros ≤ 600 }
@@ -29,6 +30,20 @@ pub fn exact_form(n: i64, zeros: u32) -> Option<Scientific>
     }
     let room = zeros.min(8 - count);
     not_above((n * power(room) as i64) as i32, zeros - room)
+}
+
+// The same, for what mostly has the one form already, so that its digits need not be counted.
+#[inline(always)]
+pub fn formed(n: i64, zeros: u32) -> Option<Scientific>
+    requires short { Digits 10 8 (unsigned_abs n) }
+    requires few { zeros ≤ 600 }
+    ensures { Formed (with_zeros n zeros) result }
+{
+    let size = n.unsigned_abs();
+    if size < 100_000_000 && (zeros == 0 || size >= 10_000_000) {
+        return not_above(n as i32, zeros);
+    }
+    exact_form(n, zeros)
 }
 
 // A significand and zeros in the one form, as a number; none above 10^40.

@@ -6,7 +6,7 @@ ghost use Rattle.arithmetic.specs.Setting.{valued, Gives};
 ghost use Rattle.scientific.specs.Patterns.{meaning};
 ghost use Rattle.scientific.specs.Numbers.{units};
 
-use crate::forms::{exact_form, not_below};
+use crate::forms::{formed, not_below};
 use crate::nearest::round_fraction;
 use crate::number::Scientific;
 use crate::precision::Precision;
@@ -24,7 +24,7 @@ pub fn lift(a: Scientific, k: u8, p: Precision) -> Option<Scientific>
     }
     let whole = roundoffs_in_one(p);
     let r = round_fraction(a.significand as i64 * whole as i64, whole - k as u64, p);
-    exact_form(r.significand, r.zeros + a.zeros as u32).filter(|x| not_below(*x))
+    formed(r.significand, r.zeros + a.zeros as u32).filter(|x| not_below(*x))
 }
 
 // How many u make 1.

@@ -14,6 +14,7 @@ use crate::rounded::split_form;
 
 // The rounded product and its error part. A product of so few zeros that it is no whole number of units is below the lower
 // limit.
+#[inline(always)]
 pub fn split_product(a: Scientific, b: Scientific, p: Precision) -> Option<(Scientific, Scientific)>
     requires left { Number (meaning p.digits) (units a) }
     requires right { Number (meaning p.digits) (units b) }

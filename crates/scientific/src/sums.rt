@@ -15,6 +15,7 @@ use crate::tables::power;
 const FAR: u8 = 10;
 
 // The rounded sum and its error part.
+#[inline(always)]
 pub fn split_sum(a: Scientific, b: Scientific, p: Precision) -> Option<(Scientific, Scientific)>
     requires left { Number (meaning p.digits) (units a) }
     requires right { Number (meaning p.digits) (units b) }
@@ -29,6 +30,7 @@ pub fn split_sum(a: Scientific, b: Scientific, p: Precision) -> Option<(Scientif
 }
 
 // The rounded sum of two numbers and its error part, the first number with no fewer zeros.
+#[inline(always)]
 fn ordered_split(
     coarse: Scientific,
     fine: Scientific,

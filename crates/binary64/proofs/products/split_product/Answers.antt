@@ -2,14 +2,15 @@
 use Rattle.std.proofs.Common.{◌≡◌, sym, ap, ◌∙◌, subst, rules}
 use lib.Ieee.{binary64, mul}
 use lib.Ieee.Scale.{finite}
-use Rattle.rounding.specs.Value.{magnitude}
+use Rattle.rounding.specs.Value.{value, magnitude}
+use Rattle.arithmetic.specs.Meaning.{Number}
 use Rattle.binary64.specs.Limits.{Small, InRange, least, reach}
 use Rattle.binary64.specs.Patterns.{meaning}
 use Rattle.binary64.specs.Doubles.{units}
 use Rattle.binary64.specs.NotNan.{mul_no_nan}
 use Rattle.binary64.specs.TheMeans.{means}
 use Rattle.binary64.specs.TheRules.{rules as the_rules}
-use Rattle.binary64.proofs.ProductAnswers.{tail_fine, split_yes, split_no, split_nil}
+use Rattle.binary64.proofs.ProductAnswers.{tail_fine, split_yes, split_no, split_nil, nil_finite, nil_value, nil_small}
 use Rattle.binary64.proofs.products.split_product.Goals as goal
 
 pub in_range-requires : goal.in_range-requires
@@ -31,12 +32,31 @@ returns-then-in_range c =
     let t = split_yes binary64 least reach meaning means a.x b.x (search rules, a.number, a.small) (search rules, b.number, b.small) the_rules r c.product_error-y.result c.product_error-y.ensures in
     record { answer = t.0; number = t.1 }
 
+pub invariant_of-result-then-one_zero : goal.invariant_of-result-then-one_zero
+invariant_of-result-then-one_zero c =
+    let a = c.args.a in
+    let b = c.args.b in
+    let z = c.one_zero.ensures.yes c.if-one_zero.true in
+    record {
+      number = nil_finite binary64 least reach meaning means a.x b.x (search rules, a.number, a.small) (search rules, b.number, b.small) z;
+      small = nil_small binary64 least reach meaning means a.x b.x (search rules, a.number, a.small) (search rules, b.number, b.small) z;
+    }
+
 pub returns-then-one_zero-clause-answer : goal.returns-then-one_zero-clause-answer
 returns-then-one_zero-clause-answer c =
     let a = c.args.a in
     let b = c.args.b in
-    split_nil binary64 least reach meaning means a.x b.x (search rules, a.number, a.small) (search rules, b.number, b.small) the_rules (units c.zero.result) (units c.zero-then-one_zero.result)
-    c.zero.ensures.answer c.zero-then-one_zero.ensures.answer (c.one_zero.ensures.yes c.if-one_zero.true)
+    let z = c.one_zero.ensures.yes c.if-one_zero.true in
+    split_nil binary64 least reach meaning means a.x b.x (search rules, a.number, a.small) (search rules, b.number, b.small) the_rules (value binary64 (mul binary64 a.x b.x)) (units c.zero.result)
+    (nil_value binary64 least reach meaning means a.x b.x (search rules, a.number, a.small) (search rules, b.number, b.small) z) c.zero.ensures.answer z
+
+pub returns-then-one_zero-clause-number : goal.returns-then-one_zero-clause-number
+returns-then-one_zero-clause-number c =
+    let a = c.args.a in
+    let b = c.args.b in
+    let z = c.one_zero.ensures.yes c.if-one_zero.true in
+    let v = nil_value binary64 least reach meaning means a.x b.x (search rules, a.number, a.small) (search rules, b.number, b.small) z in
+    (subst (λ n. Number meaning n) (c.zero.ensures.answer ∙ sym v) c.zero.ensures.number, c.zero.ensures.number)
 
 pub returns-clause-answer : goal.returns-clause-answer
 returns-clause-answer c =

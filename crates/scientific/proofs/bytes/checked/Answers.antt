@@ -58,8 +58,8 @@ returns-then-not-in_form c =
     let s = c.unsigned_abs in
     record { answer = parts_other c.args.p c.args.m c.args.e s.result k (size_read s.result c.args.m c.ranges.m s.ensures.value) (zeros c.args.p c.args.e c.behind.result k c.ranges.e c.behind.ensures c.in_ok-zeros.ensures.value) c.if-not-in_form.ensures; number = tt }
 
-pub exact_form-requires : goal.exact_form-requires
-exact_form-requires c =
+pub formed-requires : goal.formed-requires
+formed-requires c =
     let k = c.in_ok-zeros.zeros in
     let s = c.unsigned_abs in
     let l = short c.args.p c.args.m s.result k (size_read s.result c.args.m c.ranges.m s.ensures.value) c.if-not-in_form.ensures in
@@ -72,6 +72,6 @@ returns c =
     let s = c.unsigned_abs in
     let q = size_read s.result c.args.m c.ranges.m s.ensures.value in
     let l = short c.args.p c.args.m s.result k q c.if-not-in_form.ensures in
-    let t = made c.args.p c.args.m c.args.e s.result k c.exact_form.result c.ok_or-2.result q (zeros c.args.p c.args.e c.behind.result k c.ranges.e c.behind.ensures c.in_ok-zeros.ensures.value) c.if-not-in_form.ensures
-    (rw (held c.args.m c.ranges.m l) at c.exact_form.ensures) c.ok_or-2.ensures.value in
+    let t = made c.args.p c.args.m c.args.e s.result k c.formed.result c.ok_or-2.result q (zeros c.args.p c.args.e c.behind.result k c.ranges.e c.behind.ensures c.in_ok-zeros.ensures.value) c.if-not-in_form.ensures
+    (rw (held c.args.m c.ranges.m l) at c.formed.ensures) c.ok_or-2.ensures.value in
     record { answer = t.0; number = t.1 }

@@ -39,8 +39,8 @@ returns-then-a-eq0 c = record { answer = nil c.args.p c.args.a c.args.k c.requir
 pub overflow_mul-a : goal.overflow_mul-a
 overflow_mul-a c = let w = c.roundoffs_in_one-whole in rw (is c.args.a w.result w.ensures.few) (wide _ (room c.args.a w.result w.ensures.few))
 
-pub exact_form-requires : goal.exact_form-requires
-exact_form-requires c =
+pub formed-requires : goal.formed-requires
+formed-requires c =
     let r = c.round_fraction-r in
     let z : c.args.a.zeros < 256 = search rules in
     rw (in_digits c.args.p r.result.significand r.ensures.short) (record { short = short_digits c.args.p.digits (nat_abs r.result.significand) c.args.p.most r.ensures.short; few = omega (arith, r.ensures.few) })
@@ -60,8 +60,8 @@ returns c =
     let z = r.result.zeros in
     let ne : a.significand ≡ pos 0 → ⊥ = λ e. c.if-a-eq0.false (ap (of_z w32) e) in
     let v : with_zeros m z ≡ rounding 10 p.digits 1 (a.significand *ℤ pos w.result) (w.result - k) = r.ensures.value ∙ ap (λ (x : ℤ). rounding 10 p.digits 1 x (w.result - k)) (held a w.result w.ensures.few) in
-    let f = rw (in_digits p m r.ensures.short) at c.exact_form.ensures in
-    let t = filtered (Answered p a k) _ c.exact_form.result c.filter.result c.filter.ensures
+    let f = rw (in_digits p m r.ensures.short) at c.formed.ensures in
+    let t = filtered (Answered p a k) _ c.formed.result c.filter.result c.filter.ensures
     (λ e. (above p a k c.requires.few ne m z w.result w.ensures.value v (subst (Formed (with_zeros m (z + a.zeros))) e f), tt))
     (λ x e q. let l : leb lowest (nat_abs (units x)) ≡ true = search rules in
     let g = subst (Formed (with_zeros m (z + a.zeros))) e f in

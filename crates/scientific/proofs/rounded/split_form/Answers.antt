@@ -1,6 +1,6 @@
 -- The rounded part is at most twice n, and the error part no more than n, so nothing overflows. Zeros stand behind both parts, and
 -- where the error part is above 10^40, the rounded one is; so it is not, once the rounded one is a number.
-use Rattle.std.proofs.Common.{◌≡◌, refl, ℕ, ◌+◌, ◌^◌, ◌<◌, ◌≤◌, ℤ, ◌-ℤ◌, ◌*ℤ◌, nat_abs, None, Some, Option, sym, ap, ◌∙◌, subst, lt_irrefl, lt_of_lt_of_le, arith, w64, SFits, to_z, of_z}
+use Rattle.std.proofs.Common.{◌≡◌, ℕ, ◌+◌, ◌^◌, ◌<◌, ◌≤◌, ℤ, ◌-ℤ◌, ◌*ℤ◌, nat_abs, None, Some, Option, sym, ap, ◌∙◌, subst, lt_irrefl, lt_of_lt_of_le, arith, w64, SFits, to_z, of_z}
 use Rattle.rounding.specs.Digits.{Digits}
 use Rattle.scientific.specs.declared.nearest.Rounded.{Rounded}
 use Rattle.scientific.specs.declared.precision.Precision.{Precision}
@@ -9,7 +9,7 @@ use Rattle.scientific.specs.Forms.{with_zeros, highest}
 use Rattle.scientific.specs.Numbers.{units, Formed}
 use Rattle.scientific.specs.Splits.{SplitFormed, rounded_to, error}
 use Rattle.scientific.proofs.Casts.{in_digits, wide, in_64, power_is, power_fits}
-use Rattle.std.specs.Option.{IsSome}
+use Rattle.std.specs.Option.{unwrap_or}
 use Rattle.scientific.proofs.Limits.{small_is}
 use Rattle.scientific.proofs.Values.{size_with, with_more}
 use Rattle.scientific.proofs.ErrorPart.{short_digits, more_digits, error_at_most_own, rounded_at_most_double, rounded_with, error_with, error_digits, error_above}
@@ -61,12 +61,9 @@ module _ (p : Precision) (n : ℤ) (r : Rounded) (small : nat_abs n < 2 ^ 62) (v
     held : to_z w64 (of_z w64 (to_z w64 (of_z w64 n) -ℤ to_z w64 (of_z w64 (to_z w64 (of_z w64 r.significand) *ℤ to_z w64 x)))) ≡ error d n
     held = rw rest (in_64 (error d n) less)
 
-formed_as : (z : ℤ) (r : Option Scientific) (x : Scientific) → r ≡ Some x → Formed z r → units x ≡ z
-formed_as z r x e h = subst (Formed z) e h
-
-some_within : (z : ℤ) (r : Option Scientific) → Formed z r → (highest < nat_abs z → ⊥) → IsSome r
-some_within z (Some x) h f = refl
-some_within z None h f = absurd (f h)
+or_formed : (z : ℤ) (r : Option Scientific) (x y : Scientific) → Formed z r → (highest < nat_abs z → ⊥) → x ≡ unwrap_or r y → units x ≡ z
+or_formed z (Some s) x y h f e = rw e h
+or_formed z None x y h f e = absurd (f h)
 
 number_within : (x : Scientific) → nat_abs (units x) ≤ highest
 number_within x = rw (size_with x.significand x.zeros) (small_is (nat_abs x.significand) x.zeros x.small)
@@ -74,8 +71,8 @@ number_within x = rw (size_with x.significand x.zeros) (small_is (nat_abs x.sign
 refused : (d : ℕ) (z : ℤ) (r : Option (Scientific × Scientific)) → r ≡ None → highest < nat_abs (rounded_to d z) → SplitFormed d z r
 refused d z r e h = subst (SplitFormed d z) (sym e) h
 
-pub exact_form-requires : goal.exact_form-requires
-exact_form-requires c = let r = c.round_fraction-r in record { short = digits c.args.p c.args.n r.result c.requires.small r.ensures.value r.ensures.short; few = omega (arith, r.ensures.few) }
+pub formed-requires : goal.formed-requires
+formed-requires c = let r = c.round_fraction-r in record { short = digits c.args.p c.args.n r.result c.requires.small r.ensures.value r.ensures.short; few = omega (arith, r.ensures.few) }
 
 pub returns-in_err-main : goal.returns-in_err-main
 returns-in_err-main c = let r = c.round_fraction-r in
@@ -91,26 +88,20 @@ overflow_mul-r c = let r = c.round_fraction-r in product_fits c.args.p c.args.n 
 pub overflow_sub-n : goal.overflow_sub-n
 overflow_sub-n c = let r = c.round_fraction-r in rest_fits c.args.p c.args.n r.result c.requires.small r.ensures.value r.ensures.short c.power.result c.power.ensures r.ensures.few
 
-pub exact_form-requires-2 : goal.exact_form-requires-2
-exact_form-requires-2 c =
+pub exact_form-requires : goal.exact_form-requires
+exact_form-requires c =
     let r = c.round_fraction-r in
     let d = c.args.p.digits in
     let e = error_digits d c.args.n (omega arith) c.args.zeros c.requires.part in
     rw (held c.args.p c.args.n r.result c.requires.small r.ensures.value r.ensures.short c.power.result c.power.ensures r.ensures.few)
     (record { short = more_digits d (nat_abs (error d c.args.n)) c.args.p.most e; few = omega arith })
 
--- the error part is not above the limit, since the rounded one is a number
-pub unwrap-error-requires : goal.unwrap-error-requires
-unwrap-error-requires c =
-    let r = c.round_fraction-r in
-    let k = c.args.zeros in
-    let d = c.args.p.digits in
-    let h = rw (held c.args.p c.args.n r.result c.requires.small r.ensures.value r.ensures.short c.power.result c.power.ensures r.ensures.few) at c.exact_form-2.ensures in
-    let m : nat_abs (rounded_to d (with_zeros c.args.n k)) ≤ highest = subst (λ (z : ℤ). nat_abs z ≤ highest) (c.in_ok-main.ensures ∙ main c.args.p c.args.n r.result c.requires.small r.ensures.value r.ensures.short k) (number_within c.in_ok-main.main) in
-    some_within (with_zeros (error d c.args.n) k) _ h (λ a. let b = error_above d c.args.n (omega arith) k highest a in lt_irrefl highest (lt_of_lt_of_le b m))
-
 pub returns : goal.returns
 returns c =
     let r = c.round_fraction-r in
-    let h = rw (held c.args.p c.args.n r.result c.requires.small r.ensures.value r.ensures.short c.power.result c.power.ensures r.ensures.few) at c.exact_form-2.ensures in
-    (c.in_ok-main.ensures ∙ main c.args.p c.args.n r.result c.requires.small r.ensures.value r.ensures.short c.args.zeros, formed_as (with_zeros (error c.args.p.digits c.args.n) c.args.zeros) _ _ c.unwrap-error.ensures h ∙ error_with c.args.p.digits c.args.n (omega arith) c.args.zeros)
+    let k = c.args.zeros in
+    let d = c.args.p.digits in
+    let h = rw (held c.args.p c.args.n r.result c.requires.small r.ensures.value r.ensures.short c.power.result c.power.ensures r.ensures.few) at c.exact_form.ensures in
+    -- the error part is not above the limit, since the rounded one is a number
+    let m : nat_abs (rounded_to d (with_zeros c.args.n k)) ≤ highest = subst (λ (z : ℤ). nat_abs z ≤ highest) (c.in_ok-main.ensures ∙ main c.args.p c.args.n r.result c.requires.small r.ensures.value r.ensures.short k) (number_within c.in_ok-main.main) in
+    (c.in_ok-main.ensures ∙ main c.args.p c.args.n r.result c.requires.small r.ensures.value r.ensures.short k, or_formed (with_zeros (error d c.args.n) k) _ _ _ h (λ a. let b = error_above d c.args.n (omega arith) k highest a in lt_irrefl highest (lt_of_lt_of_le b m)) c.unwrap_or-error.ensures ∙ error_with d c.args.n (omega arith) k)
