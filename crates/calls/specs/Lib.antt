@@ -1,3 +1,5 @@
 pub mod Outcomes
+pub mod Entries
+pub mod Lines
 pub mod Works
 pub mod Texts

@@ -6,7 +6,7 @@ use Rattle.calls.specs.declared.answer.Answer.TheVariants.{Added, Asked, Examine
 
 abbrev pub outcome_of : Answer → Result (Unit {0}) Refusal
 outcome_of (Added i) = Ok tt
-outcome_of (Asked value bound) = Ok tt
-outcome_of (Examined v) = Ok tt
+outcome_of (Asked order value bound) = Ok tt
+outcome_of (Examined order v) = Ok tt
 outcome_of Cleared = Ok tt
 outcome_of (Refused r) = Err r

@@ -1,9 +1,10 @@
 // The calls of a bench, worked with patterns for numbers.
 ghost use Rattle.std.specs.Prelude.{◌≡◌, ◌+◌, ◌<◌};
 ghost use Rattle.arithmetic.specs.Setting.{Stays};
-ghost use Rattle.coefficients.specs.Calls.{withdraw as withdraw_call, withdrawn};
-ghost use Rattle.bench.specs.Benches.{making_of, state_of, AnswersCall, Keeps};
-ghost use Rattle.calls.specs.Works.{settled, Takes, Works};
+ghost use Rattle.coefficients.specs.Calls.{add as add_call, ask as ask_call, clear as clear_call, withdraw as withdraw_call, withdrawn};
+ghost use Rattle.bench.specs.Benches.{AnswersCall, Keeps};
+ghost use Rattle.calls.specs.Entries.{alone, settling, examination, entries};
+ghost use Rattle.calls.specs.Works.{Works};
 
 use crate::answer::Answer;
 use crate::call::Call;
@@ -13,13 +14,13 @@ use bench::question::{GivenBack, Question};
 use patterns::Pattern;
 
 // Adds a zero.
-pub fn add<A: Arithmetic>(bench: &mut Bench<'_, A>, arith: &mut A, zero: Pattern) -> Answer
+pub fn add<A: Arithmetic>(bench: &mut Bench<'_, A>, arith: &mut A, zero: &[u8; 8]) -> Answer
     requires law { A.lawful arith.old }
-    ensures works { Works (A.setting arith.old) bench.old bench.new (Call.Add zero) result }
+    ensures works { Works (A.setting arith.old) bench.old bench.new (alone (add_call zero.now)) result }
     ensures counts { bench.new.out ≡ bench.old.out }
     ensures arith { Stays A.setting A.lawful arith.old arith.new }
 {
-    match bench.add(arith, &zero.bytes) {
+    match bench.add(arith, zero) {
         Ok(number) => Answer::Added(number),
         Err(refusal) => Answer::Refused(refusal),
     }
@@ -28,11 +29,12 @@ pub fn add<A: Arithmetic>(bench: &mut Bench<'_, A>, arith: &mut A, zero: Pattern
 // Asks an order.
 pub fn ask<A: Arithmetic>(bench: &Bench<'_, A>, arith: &mut A, order: u8) -> Answer
     requires law { A.lawful arith.old }
-    ensures works { Works (A.setting arith.old) bench.now bench.now (Call.Ask order) result }
+    ensures works { Works (A.setting arith.old) bench.now bench.now (alone (ask_call order)) result }
     ensures arith { Stays A.setting A.lawful arith.old arith.new }
 {
     match bench.ask(arith, order) {
         Ok((value, bound)) => Answer::Asked {
+            order,
             value: Pattern {
                 bytes: arith.pattern(value),
             },
@@ -47,7 +49,7 @@ pub fn ask<A: Arithmetic>(bench: &Bench<'_, A>, arith: &mut A, order: u8) -> Ans
 // Clears the bench.
 pub fn clear<A: Arithmetic>(bench: &mut Bench<'_, A>, arith: &A) -> Answer
     requires law { A.lawful arith.now }
-    ensures { Works (A.setting arith.now) bench.old bench.new Call.Clear result }
+    ensures { Works (A.setting arith.now) bench.old bench.new (alone clear_call) result }
 {
     match bench.clear(arith) {
         Ok(()) => Answer::Cleared,
@@ -75,17 +77,18 @@ fn settle<A: Arithmetic>(
     bench: &mut Bench<'_, A>,
     arith: &mut A,
     question: Question,
-    claim: Pattern,
-    tolerance: Pattern,
+    claim: &[u8; 8],
+    tolerance: &[u8; 8],
 ) -> Answer
     requires law { A.lawful arith.old }
     requires own { question.bench ≡ bench.old.number }
     requires out { 0 < bench.old.out }
-    ensures takes { Takes (A.setting arith.old) bench.old bench.new (settled (making_of (A.setting arith.old) bench.old) (state_of (A.setting arith.old) bench.old) question.order claim.bytes tolerance.bytes) result }
+    ensures works { Works (A.setting arith.old) bench.old bench.new (settling question.order claim.now tolerance.now) result }
     ensures arith { Stays A.setting A.lawful arith.old arith.new }
 {
-    match bench.mark(arith, question, &claim.bytes, &tolerance.bytes) {
-        Ok(verdict) => Answer::Examined(verdict),
+    let order = question.order();
+    match bench.mark(arith, question, claim, tolerance) {
+        Ok(verdict) => Answer::Examined { order, verdict },
         Err(back) => {
             let GivenBack { question, refusal } = back;
             withdraw(bench, arith, question);
@@ -99,11 +102,11 @@ pub fn examine<A: Arithmetic>(
     bench: &mut Bench<'_, A>,
     arith: &mut A,
     order: u8,
-    claim: Pattern,
-    tolerance: Pattern,
+    claim: &[u8; 8],
+    tolerance: &[u8; 8],
 ) -> Answer
     requires law { A.lawful arith.old }
-    ensures works { Works (A.setting arith.old) bench.old bench.new (Call.Examine order claim tolerance) result }
+    ensures works { Works (A.setting arith.old) bench.old bench.new (examination order claim.now tolerance.now) result }
     ensures arith { Stays A.setting A.lawful arith.old arith.new }
 {
     match bench.issue(arith, order) {
@@ -115,17 +118,17 @@ pub fn examine<A: Arithmetic>(
 // Works a call.
 pub fn work<A: Arithmetic>(bench: &mut Bench<'_, A>, arith: &mut A, call: Call) -> Answer
     requires law { A.lawful arith.old }
-    ensures works { Works (A.setting arith.old) bench.old bench.new call result }
+    ensures works { Works (A.setting arith.old) bench.old bench.new (entries call) result }
     ensures arith { Stays A.setting A.lawful arith.old arith.new }
 {
     match call {
-        Call::Add(zero) => add(bench, arith, zero),
+        Call::Add(zero) => add(bench, arith, &zero.bytes),
         Call::Ask(order) => ask(bench, arith, order),
         Call::Examine {
             order,
             claim,
             tolerance,
-        } => examine(bench, arith, order, claim, tolerance),
+        } => examine(bench, arith, order, &claim.bytes, &tolerance.bytes),
         Call::Clear => clear(bench, arith),
     }
 }
