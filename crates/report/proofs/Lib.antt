@@ -1,0 +1,5 @@
+pub mod Turns
+pub mod Slips
+pub mod Loop
+pub mod TheLaw
+pub mod Cut

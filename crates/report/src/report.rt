@@ -1,0 +1,106 @@
+// Reporting a sheet slip by slip.
+ghost use Rattle.std.specs.Prelude.{◌≡◌, ◌≤◌, length, None, IsOk, IfOk, OnErr, ◌↔◌};
+ghost use Rattle.arithmetic.specs.Setting.{Stays};
+ghost use Rattle.bench.specs.Benches.{Keeps};
+ghost use Rattle.sheet.specs.Format.{ended, reading};
+ghost use Rattle.sheet.specs.Reading.{told_reading, Moved};
+ghost use Rattle.report.specs.Steps.{ending_by};
+ghost use Rattle.report.specs.Text.{ending_line};
+ghost use Rattle.report.specs.Calls.{told_kept, report_state, step_of, Answers, KeepsFault, Written};
+
+use crate::lines::{LEAST_BUFFER, line_of_end, line_of_fault, write};
+use crate::refusal::{SmallBuffer, Unreported};
+use crate::slip::work_slip;
+use arithmetic::Arithmetic;
+use bench::Bench;
+use sheet::fault::SheetFault;
+use sheet::slip::Slip;
+use sheet::{Reader, Sheet};
+
+// Where the report of a sheet stands: the reader of its slips, and the fault that was met, if one was.
+#[derive(Drop)]
+pub struct Report<'s> {
+    reader: Reader<'s>,
+    fault: Option<SheetFault>,
+}
+
+// Question 18: has the line buffer 128 bytes?
+fn check_room(buffer: &[u8]) -> Result<(), SmallBuffer>
+    ensures { IsOk result ↔ (128 ≤ length buffer.now) }
+{
+    if buffer.len() < LEAST_BUFFER {
+        return Err(SmallBuffer);
+    }
+    Ok(())
+}
+
+impl<'s> Report<'s> {
+    // A report before the first slip of a sheet.
+    pub fn new(sheet: Sheet<'s>) -> Report<'s>
+        ensures bytes { result.reader.bytes.now ≡ sheet.entry.bytes.now }
+        ensures start { (result.reader.at ≡ 2) × (result.reader.slips ≡ 0) × (result.fault ≡ None) }
+    {
+        Report {
+            reader: sheet.reader(),
+            fault: None,
+        }
+    }
+
+    // The next slip; a fault is kept.
+    fn read<A: Arithmetic>(&mut self, arith: &A) -> Result<Option<Slip<'s>>, SheetFault>
+        requires law { A.lawful arith.now }
+        ensures answer { told_reading result self.new.reader.at ≡ reading (A.setting arith.now).meaning self.old.reader.bytes.now self.old.reader.at self.old.reader.slips }
+        ensures moved { Moved result self.old.reader.at self.old.reader.slips self.new.reader.at self.new.reader.slips }
+        ensures bytes { self.new.reader.bytes.now ≡ self.old.reader.bytes.now }
+        ensures fault { KeepsFault result self.old.fault self.new.fault }
+    {
+        let read = self.reader.next_slip(arith);
+        if let Err(fault) = read {
+            self.fault = Some(fault);
+        }
+        read
+    }
+
+    // Reports the next slip, if the line buffer has 128 bytes: works it on the bench, writes its lines at the start of the buffer and
+    // answers their length, 0 at the sheet's end. Where a fault is met, or was met before, nothing is written, and nothing changes but
+    // that the fault is kept.
+    pub fn next_slip<A: Arithmetic>(
+        &mut self,
+        bench: &mut Bench<'_, A>,
+        arith: &mut A,
+        buffer: &mut [u8],
+    ) -> Result<usize, Unreported>
+        requires law { A.lawful arith.old }
+        ensures answer { Answers result buffer.old buffer.new (step_of (A.setting arith.old) self.old bench.old (length buffer.old)).answer }
+        ensures then { report_state (A.setting arith.old) self.new bench.new ≡ (step_of (A.setting arith.old) self.old bench.old (length buffer.old)).then }
+        ensures some { IfOk result (λ n. n ≡ 0 → reading (A.setting arith.old).meaning self.old.reader.bytes.now self.old.reader.at self.old.reader.slips ≡ ended) }
+        ensures bytes { self.new.reader.bytes.now ≡ self.old.reader.bytes.now }
+        ensures keeps { Keeps (A.setting arith.old) bench.old bench.new }
+        ensures arith { Stays A.setting A.lawful arith.old arith.new }
+    {
+        check_room(buffer)?;
+        if let Some(fault) = self.fault {
+            return Err(fault.into());
+        }
+        let Some(slip) = self.read(arith)? else {
+            return Ok(0);
+        };
+        let lines = work_slip(bench, arith, slip);
+        Ok(write(buffer, lines.as_str()))
+    }
+
+    // Writes the last line at the start of the line buffer, if that has 128 bytes, and answers its length: the fault that was met, or
+    // else the count of slips.
+    pub fn last(&self, buffer: &mut [u8]) -> Result<usize, SmallBuffer>
+        ensures room { IsOk result ↔ (128 ≤ length buffer.old) }
+        ensures written { IfOk result (λ n. Written (ending_line (ending_by self.now.reader.slips (told_kept self.now.fault))) n buffer.old buffer.new) }
+        ensures small { OnErr result (buffer.new ≡ buffer.old) }
+    {
+        check_room(buffer)?;
+        let lines = match self.fault {
+            Some(fault) => line_of_fault(fault),
+            None => line_of_end(self.reader.slips()),
+        };
+        Ok(write(buffer, lines.as_str()))
+    }
+}
