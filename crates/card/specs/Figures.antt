@@ -1,16 +1,12 @@
 -- The worked figures: what the definitions give on small cards, in binary64 and in decimal with eight digits.
 use Rattle.std.specs.Prelude.{◌≡◌, ℕ, ◌-◌, ◌*◌, ◌^◌, List, [], ◌∷◌, ℤ, pos, neg_ℤ}
 use Rattle.std.proofs.Math.Option.{some}
-use Rattle.arithmetic.specs.Meaning.{Meaning, Admission}
+use Rattle.arithmetic.specs.Meaning.{Meaning}
 use Rattle.arithmetic.specs.Operations.{sum_split}
-use Rattle.arithmetic.specs.Radix.{radix}
 use Rattle.binary64.specs.Patterns.{meaning, pattern}
+use Rattle.scientific.specs.Patterns.{meaning as decimal}
 use Rattle.coefficients.specs.Closing.{right, wrong, left_open}
 use Rattle.coefficients.specs.Calls.{Making, State, Call, Answer, step, new_bench, add_number, mark_numbers, add, clear, ask, issue, added, cleared, asked, marked, refused}
-
--- decimal with eight digits: 10^70 units to 1, limits 10^−40 and 10^40. No figure below looks at patterns, so these are any.
-abbrev pub decimal : (List ℕ → Admission) → (ℤ → List ℕ) → Meaning
-decimal admit written = radix 10 8 70 (10 ^ 30) (10 ^ 110) admit written
 
 -- bench number 1
 abbrev pub bench_of : Meaning → ℕ → Making
@@ -101,4 +97,4 @@ pub record DecimalFigures (m : Meaning) : Type 0 where
 
 pub record Figures : Type 0 where
   pub of_binary64 : Binary64Figures
-  pub of_decimal : (admit : List ℕ → Admission) (written : ℤ → List ℕ) → DecimalFigures (decimal admit written)
+  pub of_decimal : DecimalFigures (decimal 8)

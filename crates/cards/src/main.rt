@@ -1,7 +1,7 @@
 // Works whole cards through benches, and compares each answer with that of an outside library, read from standard input.
 //
-// A line `card binary64 3` or `card decimal 3` opens a card of highest order 3. Its lines are `add X = 1`, with the number of the zero; `ask 2 = V B`, with the
-// value and the bound; `mark 1 C T = right`, `wrong` or `open`, with a claim and a tolerance. A refused call has `R`, the number of the
+// A line `card binary64 3` or `card decimal 3` opens a card of highest order 3. Its lines are `add X = Z 1`, with the number of the zero;
+// `ask 2 = K 2 V B`, with the value and the bound; `mark 1 C T = M 1 right`, `wrong` or `open`, with a claim and a tolerance. A refused call has `R`, the number of the
 // refusal and its details. Lines that begin with `#` are comments.
 #![tactic(auto)]
 
@@ -10,11 +10,11 @@ use bench::Bench;
 use binary64::Binary64;
 use call::parse;
 use calls::work::work;
-use comparison::format::Format;
 use comparison::score::Score;
 use comparison::{compare, read_count};
 use decimal::Decimal;
-use row::cell::Cell;
+use row::empty;
+use sheet::format::Format;
 use std::io;
 use tally::Tallies;
 
@@ -39,18 +39,6 @@ fn check<A: Arithmetic>(
     }
     println!(rt; "not a call: {line}")?;
     Ok(false)
-}
-
-// A cell of zeros.
-fn empty<A: Arithmetic>(arith: &A) -> Cell<A::Plain>
-    requires law { A.lawful arith.now }
-{
-    let zero = arith.plain(arith.zero());
-    Cell {
-        sum: zero,
-        correction: zero,
-        errors: zero,
-    }
 }
 
 // Works the lines of a card of highest order k; there is none of order 0 or above 64.

@@ -2,8 +2,8 @@
 ghost use Rattle.std.specs.Prelude.{◌≡◌};
 ghost use Rattle.cards.specs.Tallies.{no_cards, noted, no_tallies, noted_of};
 
-use comparison::format::Format;
 use comparison::score::Score;
+use sheet::format::Format;
 use std::fmt;
 
 // The cards and the calls of an arithmetic. A card agrees if each of its calls does.

@@ -37,7 +37,7 @@ fn added(bench: &mut Bench<Binary64>, zero: f64) -> Result<(), Refusal>
     ensures number { bench.new.number ≡ bench.old.number }
     ensures out { bench.new.out ≡ bench.old.out }
 {
-    add(bench, &mut Binary64, Pattern::of_binary64(zero)).outcome()
+    add(bench, &mut Binary64, &Pattern::of_binary64(zero).bytes).outcome()
 }
 
 // An asking.
@@ -55,9 +55,9 @@ fn examined(
     requires claim { NotNan claim }
     requires tolerance { NotNan tolerance }
 {
-    let claim = Pattern::of_binary64(claim);
-    let tolerance = Pattern::of_binary64(tolerance);
-    examine(bench, &mut Binary64, order, claim, tolerance).outcome()
+    let claim = Pattern::of_binary64(claim).bytes;
+    let tolerance = Pattern::of_binary64(tolerance).bytes;
+    examine(bench, &mut Binary64, order, &claim, &tolerance).outcome()
 }
 
 // 2: an addition while a question is out.
@@ -127,7 +127,7 @@ fn of_order_3(rt: &HostRuntime) -> io::Result<()> {
     show(rt, added(&mut bench, f64::INFINITY))?;
     show(rt, added(&mut bench, TOO_LARGE))?;
     show(rt, asked(&bench, 4))?;
-    // two zeros, and the third order
+    // two zeros are held: order 3, which the row has, is refused by 7
     show(rt, added(&mut bench, 1.0))?;
     show(rt, added(&mut bench, 1.0))?;
     show(rt, asked(&bench, 3))?;

@@ -1,3 +1,6 @@
 pub mod Tallies
-pub mod Operands
 pub mod Texts
+pub mod Answers
+pub mod Workings
+pub mod Questions
+pub mod Sections

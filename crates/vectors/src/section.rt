@@ -1,6 +1,8 @@
 // A section of vectors: those that are worked through the arithmetic of one format.
-ghost use Rattle.std.specs.Prelude.{◌≡◌};
+ghost use Rattle.std.specs.Prelude.{◌≡◌, IfOk};
+ghost use Rattle.comparison.specs.Words.{words};
 ghost use Rattle.vectors.specs.Tallies.{no_vectors};
+ghost use Rattle.vectors.specs.Sections.{meaning_of, IsWorkingOf, first_word_of, NotesAnswer, NotesBoth};
 
 use crate::answer::Answer;
 use crate::tally::{Operation, Tally};
@@ -8,8 +10,8 @@ use crate::vector::parse;
 use crate::work::{Worked, work};
 use binary64::Binary64;
 use comparison::compare;
-use comparison::format::Format;
 use decimal::Decimal;
+use sheet::format::Format;
 use std::fmt;
 
 // The format that it names, and what is counted of its vectors.
@@ -36,7 +38,9 @@ impl Section {
     }
 
     // Works a question through the arithmetic of the section; none where it is no vector.
-    pub fn work(&self, question: &str) -> Option<Worked> {
+    pub fn work(&self, question: &str) -> Option<Worked>
+        ensures { IsWorkingOf (meaning_of self.now.format) (words question.now) result }
+    {
         let vector = parse(question)?;
         Some(match self.format {
             Format::Binary64 => work(&mut Binary64, vector),
@@ -51,7 +55,10 @@ impl Section {
         answered: (Operation, Answer),
         expected: &str,
         line: &str,
-    ) -> anyhow::Result<()> {
+    ) -> anyhow::Result<()>
+        ensures counts { IfOk result (λ _. NotesAnswer self.old.tally answered expected.now self.new.tally) }
+        ensures format { self.new.format ≡ self.old.format }
+    {
         let (operation, answer) = answered;
         self.tally
             .note(operation, compare(rt, &answer, expected, line)?);
@@ -65,7 +72,10 @@ impl Section {
         worked: Worked,
         expected: &str,
         line: &str,
-    ) -> anyhow::Result<()> {
+    ) -> anyhow::Result<()>
+        ensures counts { IfOk result (λ _. NotesBoth self.old.tally worked expected.now self.new.tally) }
+        ensures format { self.new.format ≡ self.old.format }
+    {
         if let Some(rounded) = worked.rounded {
             self.compare(rt, rounded, first_word(expected), line)?;
         }
@@ -74,6 +84,8 @@ impl Section {
 }
 
 // The first word of an answer.
-fn first_word(answer: &str) -> &str {
+fn first_word(answer: &str) -> &str
+    ensures { result.now ≡ first_word_of answer.now }
+{
     answer.split_once(' ').map_or(answer, |(first, _)| first)
 }

@@ -1,7 +1,8 @@
 // The operations of an arithmetic, from patterns to the answer that a vector is compared with.
-ghost use Rattle.std.specs.Prelude.{Some, IfOk};
-ghost use Rattle.arithmetic.specs.Setting.{Gives, GivesBoth};
-ghost use Rattle.vectors.specs.Operands.{TakesNumbers, TellsAnswers};
+ghost use Rattle.std.specs.Prelude.{◌≡◌};
+ghost use Rattle.arithmetic.specs.Setting.{Stays, Gives, GivesBoth, valued, split_valued};
+ghost use Rattle.vectors.specs.Answers.{told, told_parts, AreOperands, sum_answer, split_sum_answer, product_answer, split_product_answer, lift_answer, admission_answer, comparison_answer};
+ghost use Rattle.vectors.specs.Workings.{worked};
 
 use crate::answer::Answer;
 use crate::tally::Operation;
@@ -14,6 +15,7 @@ use patterns::Pattern;
 fn rounded<A: Arithmetic>(arith: &A, result_of: Option<A::Number>) -> Answer
     requires law { A.lawful arith.now }
     requires number { Gives (A.setting arith.now).meaning A.value result_of }
+    ensures { result ≡ told (A.setting arith.now).meaning (valued A.value result_of) }
 {
     match result_of {
         Some(number) => Answer::Number(Pattern {
@@ -27,6 +29,7 @@ fn rounded<A: Arithmetic>(arith: &A, result_of: Option<A::Number>) -> Answer
 fn in_parts<A: Arithmetic>(arith: &A, parts: Option<(A::Number, A::Number)>) -> Answer
     requires law { A.lawful arith.now }
     requires numbers { GivesBoth (A.setting arith.now).meaning A.value parts }
+    ensures { result ≡ told_parts (A.setting arith.now).meaning (split_valued A.value parts) }
 {
     match parts {
         Some((main, error)) => Answer::Split(
@@ -41,49 +44,90 @@ fn in_parts<A: Arithmetic>(arith: &A, parts: Option<(A::Number, A::Number)>) -> 
     }
 }
 
-// The numbers that two patterns are admitted as.
+// The numbers that two patterns are admitted as, or the cause for which the first one that is not admitted is none.
 fn operands<A: Arithmetic>(
     arith: &A,
     a: Pattern,
     b: Pattern,
 ) -> Result<(A::Number, A::Number), Cause>
     requires law { A.lawful arith.now }
-    ensures { IfOk result (λ p. GivesBoth (A.setting arith.now).meaning A.value (Some p)) }
+    ensures { AreOperands (A.setting arith.now).meaning A.value a b result }
 {
     Ok((arith.admit(&a.bytes)?, arith.admit(&b.bytes)?))
 }
 
-// Works an operation on the numbers that two patterns are admitted as, and tells what it answers.
-fn on_numbers<
-    A: Arithmetic,
-    R,
-    F: FnOnce(&mut A, A::Number, A::Number) -> R,
-    G: FnOnce(&A, R) -> Answer,
->(arith: &mut A, a: Pattern, b: Pattern, operation: F, tell: G) -> Answer
+#[tactic(auto, using(crate::proofs::Told::no_operands, crate::proofs::Told::two_operands))]
+fn sum<A: Arithmetic>(arith: &mut A, a: Pattern, b: Pattern) -> Answer
     requires law { A.lawful arith.old }
-    requires takes { TakesNumbers A.setting A.value arith.old (F.pre operation) }
-    requires tells { TellsAnswers A.lawful arith.old (F.post operation) (G.pre tell) }
-    ensures { A.lawful arith.new }
+    ensures answer { result ≡ sum_answer (A.setting arith.old).meaning a b }
+    ensures arith { Stays A.setting A.lawful arith.old arith.new }
 {
     match operands(arith, a, b) {
         Ok((x, y)) => {
-            let answered = operation(arith, x, y);
-            tell(arith, answered)
+            let sum = arith.sum(x, y);
+            rounded(arith, sum)
         }
         Err(_) => Answer::NoOperand,
     }
 }
 
-// A number lifted by m, where m is one that numbers are lifted by.
-fn lift<A: Arithmetic>(arith: &mut A, a: Pattern, m: u8) -> Answer
+#[tactic(auto, using(crate::proofs::Told::no_operands, crate::proofs::Told::two_operands))]
+fn split_sum<A: Arithmetic>(arith: &mut A, a: Pattern, b: Pattern) -> Answer
     requires law { A.lawful arith.old }
+    ensures answer { result ≡ split_sum_answer (A.setting arith.old).meaning a b }
+    ensures arith { Stays A.setting A.lawful arith.old arith.new }
 {
-    if m > 192 {
+    match operands(arith, a, b) {
+        Ok((x, y)) => {
+            let parts = arith.split_sum(x, y);
+            in_parts(arith, parts)
+        }
+        Err(_) => Answer::NoOperand,
+    }
+}
+
+#[tactic(auto, using(crate::proofs::Told::no_operands, crate::proofs::Told::two_operands))]
+fn product<A: Arithmetic>(arith: &mut A, a: Pattern, b: Pattern) -> Answer
+    requires law { A.lawful arith.old }
+    ensures answer { result ≡ product_answer (A.setting arith.old).meaning a b }
+    ensures arith { Stays A.setting A.lawful arith.old arith.new }
+{
+    match operands(arith, a, b) {
+        Ok((x, y)) => {
+            let product = arith.product(x, y);
+            rounded(arith, product)
+        }
+        Err(_) => Answer::NoOperand,
+    }
+}
+
+#[tactic(auto, using(crate::proofs::Told::no_operands, crate::proofs::Told::two_operands))]
+fn split_product<A: Arithmetic>(arith: &mut A, a: Pattern, b: Pattern) -> Answer
+    requires law { A.lawful arith.old }
+    ensures answer { result ≡ split_product_answer (A.setting arith.old).meaning a b }
+    ensures arith { Stays A.setting A.lawful arith.old arith.new }
+{
+    match operands(arith, a, b) {
+        Ok((x, y)) => {
+            let parts = arith.split_product(x, y);
+            in_parts(arith, parts)
+        }
+        Err(_) => Answer::NoOperand,
+    }
+}
+
+// A number lifted by k, where k is one that numbers are lifted by.
+fn lift<A: Arithmetic>(arith: &mut A, a: Pattern, k: u8) -> Answer
+    requires law { A.lawful arith.old }
+    ensures answer { result ≡ lift_answer (A.setting arith.old).meaning a k }
+    ensures arith { Stays A.setting A.lawful arith.old arith.new }
+{
+    if k > 192 {
         return Answer::NoOperand;
     }
     match arith.admit(&a.bytes) {
         Ok(x) => {
-            let lifted = arith.lift(x, m);
+            let lifted = arith.lift(x, k);
             rounded(arith, lifted)
         }
         Err(_) => Answer::NoOperand,
@@ -92,6 +136,7 @@ fn lift<A: Arithmetic>(arith: &mut A, a: Pattern, m: u8) -> Answer
 
 fn admission<A: Arithmetic>(arith: &A, a: Pattern) -> Answer
     requires law { A.lawful arith.now }
+    ensures { result ≡ admission_answer (A.setting arith.now).meaning a }
 {
     match arith.admit(&a.bytes) {
         Ok(x) => Answer::Number(Pattern {
@@ -101,12 +146,15 @@ fn admission<A: Arithmetic>(arith: &A, a: Pattern) -> Answer
     }
 }
 
+#[tactic(auto, using(crate::proofs::Told::no_operands, crate::proofs::Told::two_operands))]
 fn at_most<A: Arithmetic>(arith: &A, a: Pattern, b: Pattern) -> Answer
     requires law { A.lawful arith.now }
+    ensures { result ≡ comparison_answer (A.setting arith.now).meaning a b }
 {
-    operands(arith, a, b).map_or(Answer::NoOperand, |(x, y)| {
-        Answer::Truth(arith.at_most(x, y))
-    })
+    match operands(arith, a, b) {
+        Ok((x, y)) => Answer::Truth(arith.at_most(x, y)),
+        Err(_) => Answer::NoOperand,
+    }
 }
 
 // What a vector is worked to: the answer that stands in the whole of its result, and for a vector with an error part also that of the
@@ -119,28 +167,21 @@ pub struct Worked {
 
 pub fn work<A: Arithmetic>(arith: &mut A, vector: Vector) -> Worked
     requires law { A.lawful arith.old }
+    ensures answers { result ≡ worked (A.setting arith.old).meaning vector }
+    ensures arith { Stays A.setting A.lawful arith.old arith.new }
 {
     match vector {
         Vector::Sum(a, b) => Worked {
-            rounded: Some((Operation::Sum, on_numbers(arith, a, b, A::sum, rounded))),
-            whole: (
-                Operation::SplitSum,
-                on_numbers(arith, a, b, A::split_sum, in_parts),
-            ),
+            rounded: Some((Operation::Sum, sum(arith, a, b))),
+            whole: (Operation::SplitSum, split_sum(arith, a, b)),
         },
         Vector::Product(a, b) => Worked {
-            rounded: Some((
-                Operation::Product,
-                on_numbers(arith, a, b, A::product, rounded),
-            )),
-            whole: (
-                Operation::SplitProduct,
-                on_numbers(arith, a, b, A::split_product, in_parts),
-            ),
+            rounded: Some((Operation::Product, product(arith, a, b))),
+            whole: (Operation::SplitProduct, split_product(arith, a, b)),
         },
-        Vector::Lift(a, m) => Worked {
+        Vector::Lift(a, k) => Worked {
             rounded: None,
-            whole: (Operation::Lift, lift(arith, a, m)),
+            whole: (Operation::Lift, lift(arith, a, k)),
         },
         Vector::Admit(a) => Worked {
             rounded: None,

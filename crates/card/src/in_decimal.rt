@@ -1,0 +1,49 @@
+// Two cards in decimal with eight digits. A number M × 10^e is given as (M, e), with eight digits in M.
+use calls::call::Call;
+use patterns::Pattern;
+
+const ZERO: (i32, i16) = (0, 0);
+
+fn pattern((m, e): (i32, i16)) -> Pattern {
+    Pattern::of_decimal(m, e)
+}
+
+// Adds a zero.
+fn add(zero: (i32, i16)) -> Call {
+    Call::Add(pattern(zero))
+}
+
+// Examines a claim on an order.
+fn examine(order: u8, claim: (i32, i16), tolerance: (i32, i16)) -> Call {
+    Call::Examine {
+        order,
+        claim: pattern(claim),
+        tolerance: pattern(tolerance),
+    }
+}
+
+// The zero 1.0000001 twice, for a bench of highest order 2, and claims on the coefficient of order 2.
+pub fn square() -> [Call; 6] {
+    [
+        add((10_000_001, -7)),
+        add((10_000_001, -7)),
+        Call::Ask(2),
+        // 1.0000002, which it is rounded to, with no tolerance and with 2 × 10^-14
+        examine(2, (10_000_002, -7), ZERO),
+        examine(2, (10_000_002, -7), (20_000_000, -21)),
+        // 1.0000003 with no tolerance
+        examine(2, (10_000_003, -7), ZERO),
+    ]
+}
+
+// The zeros 10^10, 45, 45, -10^10 and 1.2345678, for a bench of highest order 5, where 10^10 cancels in order 1.
+pub fn cancelled() -> [Call; 6] {
+    [
+        add((10_000_000, 3)),
+        add((45_000_000, -6)),
+        add((45_000_000, -6)),
+        add((-10_000_000, 3)),
+        add((12_345_678, -7)),
+        Call::Ask(1),
+    ]
+}

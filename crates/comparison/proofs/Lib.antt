@@ -1,0 +1,2 @@
+pub mod Splitting
+pub mod Places
