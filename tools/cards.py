@@ -6,10 +6,10 @@ are worked here operation by operation over the outside libraries: GNU MPFR 4.2.
 decimal. Seeds: 20262 and 20263.
 
     card binary64 3      a card of highest order 3
-    add X = 1            the number of the zero
-    ask 2 = V B          value and bound
-    mark 1 C T = right   the verdict on the claim C with the tolerance T: right, wrong or open
-                         a refused call has `R`, the number of the refusal and its details
+    add X = Z 1              the number of the zero
+    ask 2 = K 2 V B          value and bound
+    mark 1 C T = M 1 right   the verdict on the claim C with the tolerance T: right, wrong or open
+                             a refused call has `R`, the number of the refusal and its details
 
 usage: cards.py [output path]
 """
@@ -26,13 +26,13 @@ CARDS = 300
 # written by hand: of highest order 3, with two zeros held, the third order is refused by 7
 BY_HAND = {
     "binary64": """card binary64 3
-add 3FF0000000000000 = 1
-add 4000000000000000 = 2
+add 3FF0000000000000 = Z 1
+add 4000000000000000 = Z 2
 ask 3 = R 7
 """,
     "decimal": """card decimal 3
-add 00989680FFF90000 = 1
-add 01312D00FFF90000 = 2
+add 00989680FFF90000 = Z 1
+add 01312D00FFF90000 = Z 2
 ask 3 = R 7
 """,
 }
@@ -232,12 +232,10 @@ class Dealer:
         return self.dealt.choice(self.strange) if self.dealt.random() < 0.01 else self.arith.pattern(a)
 
     def added(self, bench, pattern):
-        return f"add {pattern} = {told(bench.add, pattern)}"
+        return f"add {pattern} = {added_line(bench, pattern)}"
 
     def asked(self, bench, k):
-        def both(order):
-            return " ".join(self.arith.pattern(x) for x in bench.ask(order))
-        return f"ask {k} = {told(both, k)}"
+        return f"ask {k} = {asked_line(bench, k)}"
 
     def marked(self, bench, k):
         try:
@@ -245,7 +243,7 @@ class Dealer:
         except Refused:
             value, bound = self.number(-1, 1), Fraction(0)
         claim, tolerance = (self.pattern(x) for x in self.claim(value, bound))
-        return f"mark {k} {claim} {tolerance} = {told(bench.mark, k, claim, tolerance)}"
+        return f"mark {k} {claim} {tolerance} = {marked_line(bench, k, claim, tolerance)}"
 
     def order(self, bench):
         """An order, mostly one that has a coefficient."""
@@ -298,12 +296,24 @@ class Dealer:
         return "\n".join(lines) + "\n"
 
 
-def told(call, *arguments):
-    """The answer of a call, or its refusal."""
+def told(call):
+    """The line that a call answers, or that of its refusal."""
     try:
-        return str(call(*arguments))
+        return call()
     except Refused as refusal:
         return " ".join(["R", *map(str, refusal.args)])
+
+
+def added_line(bench, pattern):
+    return told(lambda: f"Z {bench.add(pattern)}")
+
+
+def asked_line(bench, k):
+    return told(lambda: " ".join(["K", str(k), *map(bench.arith.pattern, bench.ask(k))]))
+
+
+def marked_line(bench, k, claim, tolerance):
+    return told(lambda: f"M {k} {bench.mark(k, claim, tolerance)}")
 
 
 def main():
@@ -313,4 +323,5 @@ def main():
     write(text)
 
 
-main()
+if __name__ == "__main__":
+    main()
