@@ -1,0 +1,139 @@
+//! The proved library against the plain implementation: operations on patterns, and whole sheets.
+
+use crate::proved::{self, Answer, Format, Operation};
+use crate::radix::{Binary64, Decimal, Number, Radix, at_most, lift, product_split, sum_split};
+use crate::random::{Random, any_pattern, any_sheet, beside};
+use crate::sheet;
+use std::collections::BTreeMap;
+
+/// How many agreed and how many did not.
+#[derive(Default, Clone, Copy)]
+pub struct Score {
+    agree: u64,
+    differ: u64,
+}
+
+impl Score {
+    fn note(&mut self, agrees: bool) {
+        if agrees { self.agree += 1 } else { self.differ += 1 }
+    }
+}
+
+/// At most so many disagreements of a kind are printed.
+const SHOWN: u64 = 10;
+
+fn answer<R: Radix>(operation: Operation, a: u64, b: u64) -> Answer {
+    let none = |outcome| Answer { outcome, main: 0, error: 0 };
+    let bits = |x: Number| u64::from_be_bytes(R::pattern(x));
+    let number = |x: Option<Number>| x.map_or(none(4), |x| Answer { outcome: 0, main: bits(x), error: 0 });
+    let parts = |p: Option<(Number, Number)>| p.map_or(none(4), |(x, y)| Answer { outcome: 0, main: bits(x), error: bits(y) });
+    let x = match R::admit(a.to_be_bytes()) {
+        Ok(x) => x,
+        Err(cause) => return none(cause),
+    };
+    match operation {
+        Operation::Lift => return number(lift::<R>(x, b as u8)),
+        Operation::Admission => return number(Some(x)),
+        _ => {}
+    }
+    let y = match R::admit(b.to_be_bytes()) {
+        Ok(y) => y,
+        Err(cause) => return none(cause),
+    };
+    match operation {
+        Operation::SumSplit => parts(sum_split::<R>(x, y)),
+        Operation::ProductSplit => parts(product_split::<R>(x, y)),
+        _ => Answer { outcome: 0, main: at_most(x, y) as u64, error: 0 },
+    }
+}
+
+fn plain(format: Format, operation: Operation, a: u64, b: u64) -> Answer {
+    match format {
+        Format::Binary64 => answer::<Binary64>(operation, a, b),
+        Format::Decimal => answer::<Decimal>(operation, a, b),
+    }
+}
+
+const OPERATIONS: [Operation; 5] =
+    [Operation::SumSplit, Operation::ProductSplit, Operation::Lift, Operation::Admission, Operation::Comparison];
+
+/// The name of an outcome, for the counts.
+fn outcome_name(outcome: u8) -> &'static str {
+    ["answered", "not admitted (1)", "not admitted (2)", "not admitted (3)", "refused"][outcome as usize]
+}
+
+/// Compares each operation of both arithmetics on so many random operands. Answers how many differ.
+pub fn operands(seed: u64, count: u64) -> u64 {
+    let mut differ = 0;
+    for format in [Format::Binary64, Format::Decimal] {
+        for operation in OPERATIONS {
+            let mut random = Random(seed ^ (format as u64) << 8 ^ (operation as u64) << 16);
+            let mut score = Score::default();
+            let mut outcomes = BTreeMap::<u8, u64>::new();
+            for _ in 0..count {
+                let a = any_pattern(format, &mut random);
+                let b = if operation == Operation::Lift { random.below(193) } else { beside(format, &mut random, a) };
+                let (expected, got) = (plain(format, operation, a, b), proved::operate(format, operation, a, b));
+                score.note(expected == got);
+                *outcomes.entry(expected.outcome).or_default() += 1;
+                if expected != got && score.differ <= SHOWN {
+                    println!("differ: {format:?} {operation:?} {a:016X} {b:016X}: plain {expected:X?}, proved {got:X?}");
+                }
+            }
+            let counts: Vec<_> = outcomes.iter().map(|(&outcome, n)| format!("{n} {}", outcome_name(outcome))).collect();
+            println!("{format:?} {operation:?}: {} agree, {} differ ({})", score.agree, score.differ, counts.join(", "));
+            differ += score.differ;
+        }
+    }
+    differ
+}
+
+/// Counts the lines of a report by what they say.
+fn count_lines(report: &str, counts: &mut BTreeMap<String, u64>) {
+    for line in report.lines() {
+        let words: Vec<_> = line.split(' ').collect();
+        let kind = match words[0] {
+            "M" => format!("M {}", words[2]),
+            "R" | "F" => format!("{} {}", words[0], words[1]),
+            first => first.to_string(),
+        };
+        *counts.entry(kind).or_default() += 1;
+    }
+}
+
+/// Whether a buffer of about the length of a report is left as it was where it is shorter, and past the report where it is not.
+fn keeps_buffer(sheet: &[u8], report: &[u8], room: usize) -> bool {
+    let mut buffer = vec![0xa5; room];
+    let length = proved::report_into(sheet, &mut buffer);
+    let mut expected = vec![0xa5; room];
+    if report.len() <= room {
+        expected[..report.len()].copy_from_slice(report);
+    }
+    length == report.len() && buffer == expected
+}
+
+/// Compares the reports of so many random sheets. Answers how many differ.
+pub fn sheets(seed: u64, count: u64) -> u64 {
+    let mut random = Random(seed);
+    let mut score = Score::default();
+    let mut lines = BTreeMap::new();
+    let mut buffer = vec![];
+    for _ in 0..count {
+        let longest = if random.one_in(12) { 160 } else { 24 };
+        let sheet = any_sheet(&mut random, longest);
+        let expected = sheet::report(&sheet);
+        let got = proved::report(&sheet, &mut buffer);
+        let room = (expected.len() + 3).saturating_sub(random.below(6) as usize);
+        let agrees = expected.as_bytes() == got && keeps_buffer(&sheet, expected.as_bytes(), room);
+        score.note(agrees);
+        count_lines(&expected, &mut lines);
+        if !agrees && score.differ <= SHOWN {
+            let hexadecimal: String = sheet.iter().map(|byte| format!("{byte:02X}")).collect();
+            println!("differ: sheet {hexadecimal}\nplain:\n{expected}proved:\n{}", String::from_utf8_lossy(got));
+        }
+    }
+    println!("sheets: {} agree, {} differ", score.agree, score.differ);
+    let kinds: Vec<_> = lines.iter().map(|(kind, n)| format!("{n} {kind}")).collect();
+    println!("lines of the reports: {}", kinds.join(", "));
+    score.differ
+}

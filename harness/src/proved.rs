@@ -1,0 +1,65 @@
+//! The proved library, as it is called from outside.
+
+/// The two arithmetics, by their number in a sheet's header.
+#[derive(Clone, Copy, PartialEq, Eq, Debug)]
+pub enum Format {
+    Binary64 = 1,
+    Decimal = 2,
+}
+
+#[derive(Clone, Copy, PartialEq, Eq, Debug)]
+pub enum Operation {
+    SumSplit = 1,
+    ProductSplit = 2,
+    Lift = 3,
+    Admission = 4,
+    Comparison = 5,
+}
+
+/// What an operation answers: outcome 0 with its patterns, 1 to 3 an operand that is no number with its cause, 4 refused.
+#[repr(C)]
+#[derive(Clone, Copy, PartialEq, Eq, Debug)]
+pub struct Answer {
+    pub outcome: u8,
+    pub main: u64,
+    pub error: u64,
+}
+
+unsafe extern "C" {
+    fn coef_report(sheet: *const u8, sheet_length: usize, out: *mut u8, out_length: usize) -> usize;
+    fn coef_operate(format: u8, operation: u8, a: u64, b: u64) -> Answer;
+    fn coef_card(format: u8, zeros: *const u64, n: usize, answers: *mut [u64; 2], room: usize);
+}
+
+/// The report of a sheet; the buffer is kept by the caller, so that none is made for each sheet.
+pub fn report<'b>(sheet: &[u8], buffer: &'b mut Vec<u8>) -> &'b [u8] {
+    loop {
+        let length = unsafe { coef_report(sheet.as_ptr(), sheet.len(), buffer.as_mut_ptr(), buffer.len()) };
+        assert!(length > 0, "memory was refused");
+        if length <= buffer.len() {
+            return &buffer[..length];
+        }
+        buffer.resize(length, 0);
+    }
+}
+
+/// The library's answer for a report in the buffer as it is: its length.
+pub fn report_into(sheet: &[u8], buffer: &mut [u8]) -> usize {
+    unsafe { coef_report(sheet.as_ptr(), sheet.len(), buffer.as_mut_ptr(), buffer.len()) }
+}
+
+pub fn operate(format: Format, operation: Operation, a: u64, b: u64) -> Answer {
+    unsafe { coef_operate(format as u8, operation as u8, a, b) }
+}
+
+/// Works a card; the answers are values and bounds of the orders from 0 up, as many as there is room for. One that is refused stays.
+pub fn card(format: Format, zeros: &[u64], answers: &mut [[u64; 2]]) {
+    unsafe { coef_card(format as u8, zeros.as_ptr(), zeros.len(), answers.as_mut_ptr(), answers.len()) }
+}
+
+/// Works a card so many times.
+pub fn cards(format: Format, zeros: &[u64], times: usize, answers: &mut [[u64; 2]]) {
+    for _ in 0..times {
+        card(format, zeros, answers);
+    }
+}

@@ -1,0 +1,354 @@
+//! How long cards and sheets take, in the proved library and in other forms. Every form is timed in turn, so many rounds of it, and the
+//! shortest time of each counts: what else runs on the machine only makes times longer.
+
+use crate::passes;
+use crate::proved::{self, Format, Operation};
+use crate::radix::{Decimal, Number, Radix};
+use crate::random::Random;
+use std::hint::black_box;
+use std::io::Write;
+use std::process::{Command, Stdio};
+use std::time::Instant;
+
+unsafe extern "C" {
+    fn c_two_passes(zeros: *const f64, n: usize, times: usize, answers: *mut [f64; 2]) -> usize;
+    fn c_two_passes_tested(zeros: *const f64, n: usize, times: usize, answers: *mut [f64; 2]) -> usize;
+    fn c_two_passes_tested_fma(zeros: *const f64, n: usize, times: usize, answers: *mut [f64; 2]) -> usize;
+    fn c_same_form(zeros: *const f64, n: usize, times: usize, answers: *mut [f64; 2]) -> usize;
+    fn c_double_double(zeros: *const f64, n: usize, times: usize, answers: *mut [f64; 2]) -> usize;
+    #[cfg(arb)]
+    fn c_arb(zeros: *const f64, n: usize, times: usize, answers: *mut [f64; 2], bits: i64) -> usize;
+}
+
+type Answers = Vec<[f64; 2]>;
+
+/// One way to work a card so many times.
+struct Form {
+    name: &'static str,
+    work: Box<dyn Fn(&[f64], usize, &mut [[f64; 2]])>,
+    // whether its values and bounds are those of the proved library, bit for bit
+    same: bool,
+}
+
+fn proved_card(format: Format, zeros: &[f64], times: usize, answers: &mut [[f64; 2]]) {
+    let patterns: Vec<u64> = zeros.iter().map(|x| x.to_bits()).collect();
+    let mut bits = vec![[0; 2]; answers.len()];
+    proved::cards(format, &patterns, times, &mut bits);
+    for (answer, bits) in answers.iter_mut().zip(bits) {
+        *answer = bits.map(f64::from_bits);
+    }
+}
+
+type InC = unsafe extern "C" fn(*const f64, usize, usize, *mut [f64; 2]) -> usize;
+
+fn in_c(name: &'static str, f: InC, same: bool) -> Form {
+    let work = move |zeros: &[f64], times: usize, answers: &mut [[f64; 2]]| {
+        assert_eq!(answers.len(), zeros.len() + 1);
+        assert_eq!(unsafe { f(zeros.as_ptr(), zeros.len(), times, answers.as_mut_ptr()) }, zeros.len());
+    };
+    Form { name, work: Box::new(work), same }
+}
+
+fn in_rust(name: &'static str, f: fn(&[f64], usize, &mut [[f64; 2]])) -> Form {
+    Form { name, work: Box::new(f), same: true }
+}
+
+#[cfg(arb)]
+fn by_arb() -> Vec<Form> {
+    let work = |zeros: &[f64], times: usize, answers: &mut [[f64; 2]]| {
+        unsafe { c_arb(zeros.as_ptr(), zeros.len(), times, answers.as_mut_ptr(), 106) };
+    };
+    vec![Form { name: "Arb, product of roots, 106 bits", work: Box::new(work), same: false }]
+}
+
+#[cfg(not(arb))]
+fn by_arb() -> Vec<Form> {
+    vec![]
+}
+
+fn binary_forms() -> Vec<Form> {
+    let mut forms = vec![
+        in_rust("proved bench", |zeros, times, answers| proved_card(Format::Binary64, zeros, times, answers)),
+        in_c("C, two passes with range tests", c_two_passes_tested, true),
+        in_c("C, two passes without range tests", c_two_passes, true),
+        in_rust("Rust, two passes with range tests", passes::tested),
+        in_rust("Rust, two passes without range tests", passes::untested),
+        in_c("C in the very same form", c_same_form, true),
+        in_c("C, double-double in one pass, no bound", c_double_double, false),
+    ];
+    forms.extend(by_arb());
+    if std::is_x86_feature_detected!("fma") && std::is_x86_feature_detected!("avx2") {
+        forms.push(in_c("C, two passes with range tests, x86-64-v3 with fma", c_two_passes_tested_fma, true));
+    }
+    forms
+}
+
+/// The shortest time of a call in nanoseconds, for each of some calls that each work so many times at once.
+fn shortest(repetitions: usize, times: usize, calls: &mut [Box<dyn FnMut(usize) + '_>]) -> Vec<f64> {
+    let mut best = vec![f64::INFINITY; calls.len()];
+    for _ in 0..repetitions {
+        for (best, call) in best.iter_mut().zip(calls.iter_mut()) {
+            let start = Instant::now();
+            call(times);
+            *best = best.min(start.elapsed().as_nanos() as f64 / times as f64);
+        }
+    }
+    best
+}
+
+const SIZES: [usize; 3] = [10, 30, 64];
+
+/// Zeros from -1 to 1, with all their bits random.
+fn binary_zeros(random: &mut Random, n: usize) -> Vec<f64> {
+    (0..n).map(|_| (random.next() >> 11) as f64 / (1u64 << 52) as f64 - 1.0).collect()
+}
+
+/// Whether the answers are as the proved library's: bit for bit, or else the values up to 10^-9 of the largest.
+fn check(form: &Form, zeros: &[f64], expected: &Answers) {
+    let mut answers = vec![[0.0; 2]; zeros.len() + 1];
+    (form.work)(zeros, 1, &mut answers);
+    let largest = expected.iter().map(|answer| answer[0].abs()).fold(0.0, f64::max);
+    for (k, (got, want)) in answers.iter().zip(expected).enumerate() {
+        let agrees = if form.same {
+            got.map(|x| (x + 0.0).to_bits()) == want.map(|x| x.to_bits())
+        } else {
+            (got[0] - want[0]).abs() <= 1e-9 * largest
+        };
+        assert!(agrees, "{} differs at order {k}: {got:?}, {want:?}", form.name);
+    }
+}
+
+fn measure_binary(seed: u64, repetitions: usize) {
+    let forms = binary_forms();
+    let mut table = vec![vec![]; forms.len()];
+    let mut alone = vec![];
+    for n in SIZES {
+        let mut random = Random(seed ^ n as u64);
+        let zeros = binary_zeros(&mut random, n);
+        let patterns: Vec<u64> = zeros.iter().map(|x| x.to_bits()).collect();
+        let mut expected = vec![[0.0; 2]; n + 1];
+        proved_card(Format::Binary64, &zeros, 1, &mut expected);
+        for form in &forms {
+            check(form, &zeros, &expected);
+        }
+        let mut calls: Vec<Box<dyn FnMut(usize)>> = vec![];
+        for form in &forms {
+            let (zeros, mut answers) = (&zeros, vec![[0.0; 2]; n + 1]);
+            calls.push(Box::new(move |times| (form.work)(black_box(zeros), times, black_box(&mut answers))));
+        }
+        calls.push(Box::new(|times| {
+            proved::cards(Format::Binary64, black_box(&patterns), times, &mut []);
+        }));
+        let mut best = shortest(repetitions, 40_000 / (n * n), &mut calls);
+        alone.push(best.pop().unwrap());
+        for (row, time) in table.iter_mut().zip(best) {
+            row.push(time);
+        }
+    }
+    println!("\nBinary64, a card of n zeros and all orders: microseconds, and the proved bench's time as a multiple of it");
+    println!("{:52} {:>19} {:>19} {:>19}", "", "n = 10", "n = 30", "n = 64");
+    for (form, times) in forms.iter().zip(&table) {
+        let cells: Vec<_> = times.iter().zip(&table[0]).map(|(time, own)| format!("{:>11.2} {:>7.2}", time / 1000.0, own / time)).collect();
+        println!("{:52} {}", form.name, cells.join(" "));
+    }
+    let cells: Vec<_> = alone.iter().map(|time| format!("{:>11.2}        ", time / 1000.0)).collect();
+    println!("{:52} {}", "proved bench, the additions alone", cells.join(" "));
+}
+
+/// Zeros of eight digits, from -10 to 10, as numbers of the plain implementation.
+fn decimal_zeros(random: &mut Random, n: usize) -> Vec<Number> {
+    let zero = |random: &mut Random| {
+        let m = random.from_to(10_000_000, 99_999_999) as i32 * random.choose(&[1, -1]);
+        let mut bytes = [0; 8];
+        bytes[..4].copy_from_slice(&m.to_be_bytes());
+        bytes[4..6].copy_from_slice(&(random.choose(&[-7i16, -8])).to_be_bytes());
+        Decimal::admit(bytes).unwrap()
+    };
+    (0..n).map(|_| zero(random)).collect()
+}
+
+fn decimal_bits(a: Number) -> u64 {
+    u64::from_be_bytes(Decimal::pattern(a))
+}
+
+/// M and e of a pattern, as Python's decimal module reads them.
+fn decimal_text(bits: u64) -> String {
+    format!("{}E{}", (bits >> 32) as u32 as i32, (bits >> 16) as u16 as i16)
+}
+
+fn decimal_card(seed: u64, n: usize) -> Vec<u64> {
+    let mut random = Random(seed ^ (n as u64) << 8);
+    decimal_zeros(&mut random, n).into_iter().map(decimal_bits).collect()
+}
+
+/// Each card as a line of its zeros, then a line of the value and the bound of each order, as the proved library has them.
+fn decimal_cards(seed: u64) -> String {
+    let mut text = String::new();
+    for n in SIZES {
+        let zeros = decimal_card(seed, n);
+        let mut answers = vec![[0; 2]; n + 1];
+        proved::card(Format::Decimal, &zeros, &mut answers);
+        let zeros: Vec<_> = zeros.into_iter().map(decimal_text).collect();
+        let answers: Vec<_> = answers.into_iter().flatten().map(decimal_text).collect();
+        text += &format!("{}\n{}\n", zeros.join(" "), answers.join(" "));
+    }
+    text
+}
+
+/// One card so many times and nothing else, for a profiler.
+pub fn work_card(seed: u64, format: u8, n: usize, times: usize) {
+    let (format, zeros) = match format {
+        1 => (Format::Binary64, binary_zeros(&mut Random(seed ^ n as u64), n).into_iter().map(f64::to_bits).collect()),
+        _ => (Format::Decimal, decimal_card(seed, n)),
+    };
+    let mut answers = vec![[0; 2]; n + 1];
+    let start = Instant::now();
+    proved::cards(format, black_box(&zeros), times, black_box(&mut answers));
+    println!("{:.2} microseconds", start.elapsed().as_nanos() as f64 / 1000.0 / times as f64);
+}
+
+pub fn print_decimal_cards(seed: u64) {
+    print!("{}", decimal_cards(seed));
+}
+
+/// The microseconds of each card by Python's decimal module, without range tests and with them; the script also compares every value and
+/// bound.
+fn python_times(seed: u64) -> Vec<[f64; 2]> {
+    let script = concat!(env!("CARGO_MANIFEST_DIR"), "/decimal_cards.py");
+    let mut python = Command::new("python3").arg(script).stdin(Stdio::piped()).stdout(Stdio::piped()).spawn().expect("python3");
+    python.stdin.take().unwrap().write_all(decimal_cards(seed).as_bytes()).unwrap();
+    let output = python.wait_with_output().unwrap();
+    assert!(output.status.success(), "the decimal module differs");
+    let times = |line: &str| line.split(' ').map(|word| word.parse().unwrap()).collect::<Vec<f64>>().try_into().unwrap();
+    String::from_utf8(output.stdout).unwrap().lines().map(times).collect()
+}
+
+/// The operations of a card: nine for each order of each addition, worked twice, and the six of each closing.
+fn operations(n: usize) -> f64 {
+    (2 * 9 * n * (n + 1) / 2 + 6 * n) as f64
+}
+
+fn measure_decimal(seed: u64, repetitions: usize) {
+    let python = python_times(seed);
+    println!("\nDecimal, a card of n zeros and all orders");
+    let heads = ["microseconds", "ns per operation", "Python's decimal", "ratio", "with range tests", "ratio"];
+    let [time, each, python_head, ratio, tested_head, tested_ratio] = heads;
+    println!("{:>4} {time:>14} {each:>17} {python_head:>18} {ratio:>8} {tested_head:>18} {tested_ratio:>8}", "n");
+    for (n, python) in SIZES.into_iter().zip(python) {
+        let zeros = decimal_card(seed, n);
+        let mut answers = vec![[0; 2]; n + 1];
+        let mut calls: Vec<Box<dyn FnMut(usize)>> = vec![Box::new(|times| {
+            proved::cards(Format::Decimal, black_box(&zeros), times, black_box(&mut answers));
+        })];
+        let best = shortest(repetitions, 4_000 / (n * n) + 1, &mut calls)[0];
+        let [untested, tested] = python.map(|time| format!("{time:>18.1} {:>8.1}", time * 1000.0 / best));
+        println!("{n:>4} {:>14.2} {:>17.2} {untested} {tested}", best / 1000.0, best / operations(n));
+    }
+}
+
+/// One operation through `coef_operate`, which admits two patterns and writes two.
+fn measure_operations(seed: u64, repetitions: usize) {
+    println!("\nOne operation on patterns, with admission of its operands and the patterns of its answer: nanoseconds");
+    let operations = [Operation::SumSplit, Operation::ProductSplit, Operation::Lift, Operation::Admission, Operation::Comparison];
+    for format in [Format::Binary64, Format::Decimal] {
+        let mut random = Random(seed);
+        let operand = |random: &mut Random| match format {
+            Format::Binary64 => binary_zeros(random, 1)[0].to_bits(),
+            Format::Decimal => decimal_bits(decimal_zeros(random, 1)[0]),
+        };
+        let pairs: Vec<(u64, u64)> = (0..1000).map(|_| (operand(&mut random), operand(&mut random))).collect();
+        let cells: Vec<_> = operations
+            .iter()
+            .map(|&operation| {
+                let mut calls: Vec<Box<dyn FnMut(usize)>> = vec![Box::new(|times| {
+                    for _ in 0..times {
+                        for &(a, b) in &pairs {
+                            let b = if operation == Operation::Lift { b % 193 } else { b };
+                            black_box(proved::operate(format, operation, a, b));
+                        }
+                    }
+                })];
+                format!("{operation:?} {:.1}", shortest(repetitions, 10, &mut calls)[0] / 1000.0)
+            })
+            .collect();
+        println!("{format:?}: {}", cells.join(", "));
+    }
+}
+
+/// The longest sheets: slips of one kind, after so many zeros.
+fn long_sheet(format: Format, random: &mut Random, k: u8, zeros: usize, slip: fn(&mut dyn FnMut() -> u64) -> Vec<u8>) -> Vec<u8> {
+    let mut number = || match format {
+        Format::Binary64 => binary_zeros(random, 1)[0].to_bits(),
+        Format::Decimal => decimal_bits(decimal_zeros(random, 1)[0]),
+    };
+    let mut sheet = vec![format as u8, k];
+    for _ in 0..zeros {
+        sheet.push(1);
+        sheet.extend(number().to_be_bytes());
+    }
+    while sheet.len() < 32768 {
+        let next = slip(&mut number);
+        if sheet.len() + next.len() > 32768 {
+            sheet.push(0);
+        } else {
+            sheet.extend(next);
+        }
+    }
+    sheet
+}
+
+type Slip = fn(&mut dyn FnMut() -> u64) -> Vec<u8>;
+
+/// 64 zeros, then a clear.
+fn zeros_and_clear(number: &mut dyn FnMut() -> u64) -> Vec<u8> {
+    let mut slips: Vec<u8> = (0..64).flat_map(|_| [vec![1], number().to_be_bytes().to_vec()].concat()).collect();
+    slips.push(0);
+    slips
+}
+
+/// A claim on order 32.
+fn claim(number: &mut dyn FnMut() -> u64) -> Vec<u8> {
+    [vec![14, 32], number().to_be_bytes().to_vec(), vec![0; 8]].concat()
+}
+
+/// A zero and a claim on order 1.
+fn zero_and_claim(number: &mut dyn FnMut() -> u64) -> Vec<u8> {
+    [vec![15], number().to_be_bytes().to_vec(), vec![1], number().to_be_bytes().to_vec(), vec![0; 8]].concat()
+}
+
+fn measure_sheets(seed: u64, repetitions: usize) {
+    let kinds: [(&str, usize, Slip); 5] = [
+        ("64 zeros and a clear, again and again", 0, zeros_and_clear),
+        ("zeros with claims on order 1 (those after the 64th zero refused)", 0, zero_and_claim),
+        ("64 zeros, then claims on order 32", 64, claim),
+        ("64 zeros, then orders", 64, |_| vec![2, 32]),
+        ("clears", 0, |_| vec![0]),
+    ];
+    println!("\nA sheet of 32,768 bytes with the highest order 64: milliseconds, and bytes of its report");
+    for format in [Format::Binary64, Format::Decimal] {
+        for (name, zeros, slip) in kinds {
+            let mut random = Random(seed);
+            let sheet = long_sheet(format, &mut random, 64, zeros, slip);
+            assert_eq!(sheet.len(), 32768);
+            let mut buffer = vec![0; 1 << 20];
+            let report = proved::report(&sheet, &mut buffer);
+            assert_eq!(report, crate::sheet::report(&sheet).as_bytes());
+            let length = report.len();
+            let mut calls: Vec<Box<dyn FnMut(usize)>> = vec![Box::new(|times| {
+                for _ in 0..times {
+                    black_box(proved::report(black_box(&sheet), &mut buffer));
+                }
+            })];
+            let best = shortest(repetitions.min(100), 1, &mut calls)[0];
+            println!("{:9} {name:66} {:>9.3} {length:>8}", format!("{format:?}"), best / 1e6);
+        }
+    }
+}
+
+pub fn measure(seed: u64, repetitions: usize) {
+    println!("seed {seed}, the shortest of {repetitions} repetitions of each, in turn");
+    measure_binary(seed, repetitions);
+    measure_decimal(seed, repetitions);
+    measure_operations(seed, repetitions);
+    measure_sheets(seed, repetitions);
+}
