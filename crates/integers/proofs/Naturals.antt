@@ -1,13 +1,26 @@
 -- Natural numbers: a common factor, powers, and how far two numbers lie apart.
-use Rattle.std.proofs.Common.{◌≡◌, ℕ, zero, suc, ◌+◌, ◌-◌, ◌*◌, ◌^◌, ◌<◌, ◌≤◌, refl, subst, le_of_mul-le-mul_right, arith}
+use Rattle.std.proofs.Common.{◌≡◌, ℕ, zero, suc, ◌+◌, ◌-◌, ◌*◌, ◌^◌, ◌<◌, ◌≤◌, refl, subst, inl, inr, le_of_mul-le-mul_right, mul-le-mul_left, mul-le-mul_right, arith}
 use native.Mathlib.Nat.{pow-zero, pow-le-pow_right}
 use native.Mathlib.Decide.{dec_le}
+use Rattle.std.proofs.lemmas.Bool.{cases_lt}
+use lib.Pow.{pow-lt}
 
 pub cancel : (x y c : ℕ) → 0 < c → x * c ≡ y * c → x ≡ y
 cancel x y c h e = omega (arith, le_of_mul-le-mul_right {m = x} {n = y} {k = c} (omega arith) h, le_of_mul-le-mul_right {m = y} {n = x} {k = c} (omega arith) h)
 
 pub some_power : (b k : ℕ) → 0 < b → 0 < b ^ k
 some_power b k h = rw (pow-zero b) at (pow-le-pow_right h {i = 0} {j = k} (omega arith))
+
+-- powers of 2 in order have exponents in order
+pub pow_le_back : (a b : ℕ) → 2 ^ a ≤ 2 ^ b → a ≤ b
+pow_le_back a b h = elim (cases_lt b a) [ inl l ↦ absurd (over (2 ^ a) (2 ^ b) h (pow-lt l)) | inr g ↦ g ]
+  where
+    over : (x y : ℕ) → x ≤ y → y < x → ⊥
+    over x y h k = omega arith
+
+-- two factors below x have a product below x · x
+pub product_less : (m n x : ℕ) → m < x → n < x → m * n < x * x
+product_less m n x h k = omega (arith, mul-le-mul_right n h, mul-le-mul_left x k)
 
 -- a number above 0 has one before it
 pub before : (e : ℕ) → 0 < e → (k : ℕ) × (e ≡ suc k)

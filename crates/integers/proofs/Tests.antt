@@ -37,9 +37,6 @@ ltb_yes a b h = decided (ltb a b) true (λ t. tt) (λ t. lt→ltb a b h)
 pub ltb_no : (a b : ℕ) → b ≤ a → ltb a b ≡ false
 ltb_no a b h = decided (ltb a b) false (λ t. let l = ltb→lt a b t in absurd (omega arith)) (λ t. absurd t)
 
-pub eqb_yes : (a b : ℕ) → a ≡ b → eqb a b ≡ true
-eqb_yes a b e = decided (eqb a b) true (λ t. tt) (λ t. subst (λ (c : ℕ). T (eqb a c)) e (eqb_refl a))
-
 -- the branch that a conditional takes
 pub taken : {X : Type 0} (t : Bool) (x y : X) → t ≡ true → cond t x y ≡ x
 taken t x y e = ap (λ (t : Bool). cond t x y) e

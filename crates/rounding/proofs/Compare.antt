@@ -1,7 +1,7 @@
 -- Comparisons of floats are comparisons of the numbers that they stand for. The model compares two fractions over a common
 -- denominator; a unit is a common denominator too, and the order does not depend on which is taken. The size of a float is
 -- a float too, which stands for the magnitude.
-use Rattle.std.proofs.Common.{◌≡◌, ℕ, zero, suc, ◌+◌, ◌*◌, ◌^◌, ◌<◌, Bool, true, false, not, ◌||◌, T, ltb, ℤ, pos, refl, ap, ◌∙◌, mul_assoc, mul_comm, lt_of_mul-lt-mul_right, mul-lt-mul_of_pos_right, mul-pos, mul_right_comm, arith, ltb→lt, lt→ltb, pow_pos}
+use Rattle.std.proofs.Common.{◌≡◌, ℕ, zero, suc, ◌+◌, ◌*◌, ◌^◌, ◌<◌, Bool, true, false, not, ◌||◌, T, ltb, ℤ, pos, refl, ap, ◌∙◌, mul_comm, lt_of_mul-lt-mul_right, mul-lt-mul_of_pos_right, mul-pos, arith, ltb→lt, lt→ltb, pow_pos}
 use lib.Signed.{lt_z}
 use borrow.Author.Differences as D
 use borrow.Author.Differences.{neg_is, lt_T, lt_in}
@@ -12,7 +12,7 @@ use lib.Ieee.Fits.{down_pos}
 use lib.Ieee.Scale.{finite}
 use Rattle.integers.proofs.Tests.{decided}
 use Rattle.rounding.specs.Value.{signed, magnitude, value}
-use Rattle.rounding.proofs.Floats.{Held, own}
+use Rattle.rounding.proofs.Floats.{Held, own, extended}
 
 -- the order of a / c and b / c is that of A and B
 scaled : (a b A B L c : ℕ) → 0 < c → 0 < L → a * L ≡ A * c → b * L ≡ B * c → (a < b → A < B) × (A < B → a < b)
@@ -66,12 +66,9 @@ lt_value f (fin s m e) (fin t n d) hx hy =
     let A = magnitude f (fin s m e) in
     let B = magnitude f (fin t n d) in
     order_scaled s (m * up e * down d) t (n * up d * down e) A B (2 ^ low f) (down e * down d) (mul-pos (down_pos e) (down_pos d)) (pow_pos (low f))
-    (over (m * up e) (down d) (2 ^ low f) (down e) A (own f s m e hx.0))
-    (over (n * up d) (down e) (2 ^ low f) (down d) B (own f t n d hy.0) ∙ ap (λ (z : ℕ). B * z) (mul_comm (down d) (down e)))
+    (extended (m * up e) (down d) (2 ^ low f) (down e) A (own f s m e hx.0))
+    (extended (n * up d) (down e) (2 ^ low f) (down d) B (own f t n d hy.0) ∙ ap (λ (z : ℕ). B * z) (mul_comm (down d) (down e)))
     ∙ decided (below s A t B) (lt_z (signed s A) (signed t B)) (λ h. lt_in (signed s A) (signed t B) (below_out s A t B h)) (λ h. below_in s A t B (lt_T (signed s A) (signed t B) h))
-  where
-    over : (x d L e M : ℕ) → x * L ≡ M * e → x * d * L ≡ M * (e * d)
-    over x d L e M h = mul_right_comm x d L ∙ ap (λ (z : ℕ). z * d) h ∙ mul_assoc M e d
 
 -- of two finite numbers one is at most the other, or the other is below it
 turned : (s : Bool) (a : ℕ) (t : Bool) (b : ℕ) → (below s a t b || level s a t b) ≡ not (below t b s a)

@@ -9,7 +9,7 @@ use native.Mathlib.Decide.{dec_le}
 use Rattle.std.proofs.lemmas.Int.{ints}
 use Rattle.integers.proofs.Ring.{ring, num, ◌⊕◌, ◌⊗◌, ⊖◌}
 use Rattle.integers.proofs.Integers.{abs_mul}
-use Rattle.integers.proofs.Naturals.{some_power, dist, dist_bound}
+use Rattle.integers.proofs.Naturals.{some_power, dist, dist_bound, product_less}
 use Rattle.rounding.specs.Radix.{rounded, rounding}
 use Rattle.rounding.specs.Digits.{Digits, Number}
 use Rattle.rounding.specs.Laws.{Close, ProductPart}
@@ -103,12 +103,9 @@ module _ (β p Q : ℕ) (base : 2 ≤ β) (digits : 1 ≤ p) (scale : 1 ≤ Q) w
       regroup : (m x n y : ℕ) → m * x * (n * y) ≡ m * n * (x * y)
       regroup m x n y = omega arith
 
-  few_digits : (m n x : ℕ) → m < x → n < x → m * n < x * x
-  few_digits m n x h h' = omega (arith, mul-le-mul_right n h, mul-le-mul_left x h')
-
   -- exponents that add up to q or more
   whole : (q : ℕ) → Q ≡ β ^ q → (a b : ℤ) (k : Digits β p (nat_abs a)) (l : Digits β p (nat_abs b)) → q ≤ k.e + l.e → Whole β p Q (nat_abs (a *ℤ b))
-  whole q s a b k l h = record { i = k.m * l.m; g = k.e + l.e - q; is = product_size a b k l ∙ ap (λ x. k.m * l.m * x) powers ∙ regroup (k.m * l.m) (β ^ (k.e + l.e - q)) Q; few = few_digits k.m l.m (β ^ p) k.few l.few }
+  whole q s a b k l h = record { i = k.m * l.m; g = k.e + l.e - q; is = product_size a b k l ∙ ap (λ x. k.m * l.m * x) powers ∙ regroup (k.m * l.m) (β ^ (k.e + l.e - q)) Q; few = product_less k.m l.m (β ^ p) k.few l.few }
     where
       regroup : (m x y : ℕ) → m * (y * x) ≡ m * x * y
       regroup m x y = omega arith
@@ -133,7 +130,7 @@ module _ (β p Q : ℕ) (base : 2 ≤ β) (digits : 1 ≤ p) (scale : 1 ≤ Q) w
 
   -- exponents that add up to less: the product rounds below β^(2p) units
   too_small : (q : ℕ) → Q ≡ β ^ q → (a b : ℤ) (k : Digits β p (nat_abs a)) (l : Digits β p (nat_abs b)) → k.e + l.e < q → β ^ p * β ^ p ≤ R (nat_abs (a *ℤ b) * Q) (Q * Q) → ⊥
-  too_small q s a b k l h big = clash (k.m * l.m) (β ^ p * β ^ p) _ (few_digits k.m l.m (β ^ p) k.few l.few) big
+  too_small q s a b k l h big = clash (k.m * l.m) (β ^ p * β ^ p) _ (product_less k.m l.m (β ^ p) k.few l.few) big
       (small_by U _ Q (nat_abs (a *ℤ b)) (k.m * l.m) (β ^ k.e * β ^ l.e) t.up_exact (product_size a b k l) doubled (some_U (some_power β (p - 1) (some_B β p base digits))) scale)
     where
       t : Tight U (nat_abs (a *ℤ b) * Q) (R (nat_abs (a *ℤ b) * Q) (Q * Q) * (Q * Q))

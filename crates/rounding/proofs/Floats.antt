@@ -4,7 +4,6 @@
 -- a common denominator first; a product is taken where it is a whole number of units.
 use Rattle.std.proofs.Common.{◌≡◌, ℕ, zero, suc, ◌+◌, ◌-◌, ◌*◌, ◌/◌, ◌%◌, ◌^◌, ◌<◌, ◌≤◌, Bool, true, false, cond, not, ◌&&◌, T, eqb, ltb, leb, ◌⊎◌, ℤ, pos, negsuc, ◌+ℤ◌, ◌-ℤ◌, ◌*ℤ◌, neg_ℤ, sym, refl, ap, ◌∙◌, subst, inl, inr, le_trans, le_of_eq, lt_of_le_of_lt, le_of_lt, mul_assoc, mul_comm, add-mul, mul-pos, zero-mul, mul-one, mul_right_comm, le_of_mul-le-mul_right, mul-div_cancel, arith, ltb→lt, leb→le, nltb→le, pow_pos, pow-add, shl_lt}
 use native.Mathlib.Nat.{eq_of_mul-eq-mul_right, zero-div}
-use Rattle.std.proofs.lemmas.Bool.{cases_lt}
 use lib.Pow.{pow-lt}
 use lib.IntN.{*ℤ_comm, neg_ℤ-neg_ℤ}
 use borrow.Author.Differences as D
@@ -15,8 +14,9 @@ use lib.Ieee.Exact.{HasValue, units_val}
 use lib.Ieee.Nearest.{closest, closest_same}
 use lib.Ieee.Order.{kept, drop}
 use lib.Ieee.Scale.{grid, overflow, finite}
+use Rattle.integers.proofs.Naturals.{pow_le_back}
 use Rattle.rounding.specs.Value.{signed, magnitude, value}
-use Rattle.rounding.proofs.BinaryNearest.{Nearest, Rep, Within, Over, keeps_within}
+use Rattle.rounding.proofs.BinaryNearest.{Nearest, Rep, Within, Over, keeps_within, split_pow}
 use Rattle.rounding.proofs.TwoProduct.{size_le}
 use Rattle.rounding.proofs.TwoSum.{rep_neg, over_size}
 use Rattle.rounding.proofs.ModelNearest.{round_nearest, nearest_neg}
@@ -106,21 +106,10 @@ moved : (f : Format) (v w : ℤ) (x : Float) → v ≡ w → (T (finite x) ⊎ I
 moved f v w x e g = subst (λ (z : ℤ). T (finite x) ⊎ In f z → Result f z x) e g
 
 -- ---- the value of a float that fits
-pow_le_back : (a b : ℕ) → 2 ^ a ≤ 2 ^ b → a ≤ b
-pow_le_back a b h = elim (cases_lt b a) [ inl l ↦ absurd (over (2 ^ a) (2 ^ b) h (pow-lt l)) | inr g ↦ g ]
-  where
-    over : (x y : ℕ) → x ≤ y → y < x → ⊥
-    over x y h k = omega arith
-
 -- down e divides 2 ^ low
 whole_down : (e : ℤ) (l : ℕ) → down e ≤ 2 ^ l → (k : ℕ) × (2 ^ l ≡ k * down e)
 whole_down (pos n) l h = (2 ^ l, sym (mul-one (2 ^ l)))
-whole_down (negsuc n) l h =
-    let g : suc n ≤ l = pow_le_back (suc n) l h in
-    (2 ^ (l - suc n), ap (λ (z : ℕ). 2 ^ z) (back l (suc n) g) ∙ pow-add 2 (l - suc n) (suc n))
-  where
-    back : (j k : ℕ) → k ≤ j → j ≡ j - k + k
-    back j k h = omega arith
+whole_down (negsuc n) l h = (2 ^ (l - suc n), split_pow (suc n) l (pow_le_back (suc n) l h))
 
 pub own : (f : Format) (s : Bool) (m : ℕ) (e : ℤ) → T (fits f (fin s m e)) → m * up e * 2 ^ low f ≡ magnitude f (fin s m e) * down e
 unfolding fits magnitude
@@ -203,6 +192,10 @@ module _ (f : Format) (P : ℤ → Float → Type 0) (R : OfRound f P) where
 abbrev pub Held : Format → Float → Type 0
 Held f x = T (fits f x) × T (finite x)
 
+-- x / e extended by d
+pub extended : (x d L e M : ℕ) → x * L ≡ M * e → x * d * L ≡ M * (e * d)
+extended x d L e M h = mul_right_comm x d L ∙ ap (λ (z : ℕ). z * d) h ∙ mul_assoc M e d
+
 pub of_add : (f : Format) (P : ℤ → Float → Type 0) → OfRound f P → (x y : Float) → Held f x → Held f y → P (value f x +ℤ value f y) (add f x y)
 unfolding add value
 of_add f P R nan y hx hy = absurd hx.1
@@ -211,11 +204,8 @@ of_add f P R (fin s m e) nan hx hy = absurd hy.1
 of_add f P R (fin s m e) (inf t) hx hy = absurd hy.1
 of_add f P R (fin s m e) (fin t n d) hx hy =
     of_sum f P R s (m * up e * down d) t (n * up d * down e) (down e * down d) (magnitude f (fin s m e)) (magnitude f (fin t n d)) (mul-pos (down_pos e) (down_pos d))
-    (over (m * up e) (down d) (2 ^ low f) (down e) (magnitude f (fin s m e)) (own f s m e hx.0))
-    (over (n * up d) (down e) (2 ^ low f) (down d) (magnitude f (fin t n d)) (own f t n d hy.0) ∙ ap (λ (z : ℕ). magnitude f (fin t n d) * z) (mul_comm (down d) (down e)))
-  where
-    over : (x d L e M : ℕ) → x * L ≡ M * e → x * d * L ≡ M * (e * d)
-    over x d L e M h = mul_right_comm x d L ∙ ap (λ (z : ℕ). z * d) h ∙ mul_assoc M e d
+    (extended (m * up e) (down d) (2 ^ low f) (down e) (magnitude f (fin s m e)) (own f s m e hx.0))
+    (extended (n * up d) (down e) (2 ^ low f) (down d) (magnitude f (fin t n d)) (own f t n d hy.0) ∙ ap (λ (z : ℕ). magnitude f (fin t n d) * z) (mul_comm (down d) (down e)))
 
 pub add_nearest : (f : Format) (x y : Float) → Held f x → Held f y → T (finite (add f x y)) ⊎ In f (value f x +ℤ value f y) → Result f (value f x +ℤ value f y) (add f x y)
 add_nearest f x y hx hy = of_add f (λ v r. T (finite r) ⊎ In f v → Result f v r) (record { holds = round_value f }) x y hx hy
@@ -301,12 +291,7 @@ up_pow (negsuc n) = (0, refl)
 
 down_pow : (e : ℤ) (l : ℕ) → down e ≤ 2 ^ l → (k : ℕ) × (2 ^ l ≡ 2 ^ k * down e)
 down_pow (pos n) l h = (l, sym (mul-one (2 ^ l)))
-down_pow (negsuc n) l h =
-    let g : suc n ≤ l = pow_le_back (suc n) l h in
-    (l - suc n, ap (λ (z : ℕ). 2 ^ z) (back l (suc n) g) ∙ pow-add 2 (l - suc n) (suc n))
-  where
-    back : (j k : ℕ) → k ≤ j → j ≡ j - k + k
-    back j k h = omega arith
+down_pow (negsuc n) l h = (l - suc n, split_pow (suc n) l (pow_le_back (suc n) l h))
 
 pub pos_rep : (p m k : ℕ) → m < 2 ^ p → Rep p (pos (m * 2 ^ k))
 pos_rep p m k h = record { at = k; div = record { u = m; d = 0; is = omega arith }; lt = omega (arith, shl_lt p k h, pow_pos (p + k)) }

@@ -4,8 +4,7 @@
 -- Where the product is large enough, the partial products are whole numbers of units too.
 use Rattle.std.proofs.Common.{◌≡◌, ℕ, suc, ◌+◌, ◌*◌, ◌^◌, ◌<◌, ◌≤◌, ◌⊎◌, ℤ, pos, ◌+ℤ◌, ◌-ℤ◌, ◌*ℤ◌, sym, ap, ◌∙◌, subst, inl, inr, add-zero, mul-le-mul_right, mul_comm, le_of_mul-le-mul_right, arith, pow_pos, pow-add}
 use native.Mathlib.Nat.{eq_of_mul-eq-mul_right}
-use Rattle.std.proofs.lemmas.Bool.{cases_lt}
-use lib.Pow.{pow-lt}
+use Rattle.integers.proofs.Naturals.{pow_le_back}
 use borrow.Author.Differences.{up, down, same_in, same_out, sum_is_lem, product_is}
 use Rattle.rounding.proofs.BinaryNearest.{Under, Within, Over, Div, Rep, Nearest, times, times_is, div_down, rep_times, nearest_times}
 use Rattle.rounding.proofs.TwoSum.{Sum, sub_is, one_side, size_over, Normal, normal}
@@ -96,12 +95,6 @@ parts q r t i a c g d δ e a1 f a2 S z fc ng sd nδ se n1 sf n2 =
     fc1 (nearest_times p t c g ng) (times_sum T g d a sd) (nearest_times p t d δ nδ) (times_sum T g δ e se) (nearest_times p t e a1 n1) (times_sum T a1 f a sf) (nearest_times p t f a2 n2)
 
 -- ---- the product, in fine units
-pow_le_back : (a b : ℕ) → 2 ^ a ≤ 2 ^ b → a ≤ b
-pow_le_back a b h = elim (cases_lt b a) [ inl l ↦ absurd (over (2 ^ a) (2 ^ b) h (pow-lt l)) | inr g ↦ g ]
-  where
-    over : (x y : ℕ) → x ≤ y → y < x → ⊥
-    over x y h k = omega arith
-
 fine_product : (p : ℕ) (a b : ℤ) → times (2 ^ p) a *ℤ times (2 ^ p) b ≡ times (2 ^ (p + p)) (a *ℤ b)
 fine_product p a b = times_mul (2 ^ p) (2 ^ p) a b ∙ ap (λ (m : ℕ). times m (a *ℤ b)) (sym (pow-add 2 p p))
 
