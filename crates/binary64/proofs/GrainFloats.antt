@@ -9,13 +9,13 @@ use Rattle.rounding.proofs.Floats.{Held}
 use Rattle.rounding.proofs.FloatRounding.{Rounds}
 use Rattle.rounding.proofs.Lifts.{grain_exact, less_exact, lift_rounds, ulp, rest, one_is}
 use Rattle.arithmetic.specs.Operations.{grain}
-use Rattle.binary64.specs.Limits.{reach, least}
+use Rattle.binary64.specs.Limits.{reach, least, Small}
 use Rattle.binary64.specs.Patterns.{meaning}
 use Rattle.binary64.specs.Steps.{grain_steps, lift_steps}
 use Rattle.binary64.specs.Means.{Fine, true_of, abs_value, small_of}
 use Rattle.binary64.specs.TheMeans.{means}
 use Rattle.binary64.specs.TheRules.{rules}
-use Rattle.binary64.specs.NotNan.{div_no_nan}
+use Rattle.binary64.proofs.NotNan.{div_no_nan}
 
 ulp_is : of_bits binary64 4368491638549381120 ≡ ulp binary64
 unfolding of_bits
@@ -26,9 +26,9 @@ unfolding of_bits
 one_float = refl
 
 -- ---- grains
-grains : (k : ℕ) → pos (k * 2 ^ rest binary64) ≡ grain meaning k
+in_units : (k : ℕ) → pos (k * 2 ^ rest binary64) ≡ grain meaning k
 unfolding grain meaning
-grains k = ap pos (sym (shape k (2 ^ 1074) (2 ^ 53) (2 ^ 1021) (lit< tt) refl))
+in_units k = ap pos (sym (shape k (2 ^ 1074) (2 ^ 53) (2 ^ 1021) (lit< tt) refl))
   where
     shape : (k Q U R : ℕ) → 0 < U → Q ≡ U * R → k * Q / U ≡ k * R
     shape k Q U R p e = ap (λ (z : ℕ). k * z / U) (e ∙ mul_comm U R) ∙ ap (λ (z : ℕ). z / U) (sym (mul_assoc k R U)) ∙ mul-div_cancel (k * R) p
@@ -37,14 +37,22 @@ exact_grain : (k : ℕ) → k ≤ 192 → Held binary64 (grain_steps k) × (valu
 exact_grain k h = simp ulp_is (grain_exact binary64 k (omega arith))
 
 pub grain_value : (k : ℕ) → k ≤ 192 → value binary64 (grain_steps k) ≡ grain meaning k
-grain_value k h = (exact_grain k h).1 ∙ grains k
+grain_value k h = (exact_grain k h).1 ∙ in_units k
 
-pub grain_fine : (k : ℕ) → k ≤ 192 → Fine binary64 reach (grain_steps k)
+grain_fine : (k : ℕ) → k ≤ 192 → Fine binary64 reach (grain_steps k)
 grain_fine k h = (
   mul-fits binary64 _ _,
   true_of (finite (grain_steps k)) (exact_grain k h).0.1,
   small_of binary64 least reach meaning means (grain_steps k) (subst (λ (z : ℤ). nat_abs z ≤ meaning.high) (sym (grain_value k h)) (rules.grain_is_number k h).bounded),
 )
+
+pub grain_finite : (k : ℕ) → k ≤ 192 → finite (grain_steps k) ≡ true
+grain_finite k h = (grain_fine k h).1
+
+pub grain_small : (k : ℕ) → k ≤ 192 → Small (grain_steps k)
+grain_small k h = (grain_fine k h).2
+
+pub ruleset grains = (grain_finite, grain_small, grain_value)
 
 -- ---- the divisor
 abbrev divisor : ℕ → Float

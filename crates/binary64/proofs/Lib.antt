@@ -1,4 +1,11 @@
+pub mod NotNan
+pub mod Numbers
+pub mod Signs
+pub mod Comparisons
+pub mod BitTests
+pub mod SumFloats
 pub mod ProductAnswers
-pub mod LiftAnswers
-pub mod ExactFloats
+pub mod ProductFloats
 pub mod GrainFloats
+pub mod LiftAnswers
+pub mod LiftFloats

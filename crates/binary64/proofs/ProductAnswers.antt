@@ -3,7 +3,7 @@
 use Rattle.std.proofs.Common.{◌≡◌, ℕ, zero, suc, ◌*◌, ◌^◌, ◌<◌, ◌≤◌, T, ◌⊎◌, ℤ, pos, ◌+ℤ◌, ◌*ℤ◌, nat_abs, sym, refl, ap, ◌∙◌, subst, inl, inr, lt_irrefl, mul-pos, mul-zero, zero-mul, arith, pow_pos, Bool, true, false, not, zero-le}
 use mathlib.Core.Option.{none, some}
 use lib.Ieee.{Float, Format, prec, low, mul}
-use lib.Ieee.Fits.{mul-fits, sub-fits}
+use lib.Ieee.Fits.{sub-fits}
 use lib.Ieee.Scale.{finite}
 use Rattle.integers.proofs.Integers.{abs_mul}
 use Rattle.rounding.specs.Value.{value, magnitude}
@@ -12,7 +12,7 @@ use Rattle.rounding.proofs.Model.{rounding}
 use Rattle.rounding.proofs.Floats.{Held, within_value, over_value}
 use Rattle.rounding.proofs.FloatProducts.{two_product_floats, tail_within}
 use Rattle.rounding.proofs.FloatRounding.{mul_rounds}
-use Rattle.arithmetic.specs.Meaning.{Meaning, Number}
+use Rattle.arithmetic.specs.Meaning.{Meaning}
 use Rattle.arithmetic.specs.Operations.{product, product_split}
 use Rattle.arithmetic.specs.Rules.{Rules}
 use Rattle.arithmetic.proofs.Answers.{product_is, product_not, product_zero, product_split_is, product_split_not}
@@ -46,14 +46,11 @@ module _ (f : Format) (least reach : ℕ) (m : Meaning) (M : Means f least reach
   product_rounded : Rounded f least reach m M (m.rounding exact (m.Q * m.Q)) (mul f a b)
   product_rounded = subst (λ (r : ℤ). Rounded f least reach m M r (mul f a b)) (sym (rounds_product f least reach m M exact)) (over_rounded f least reach m M (rounding (prec f) exact (2 ^ low f)) (mul f a b) (mul_rounds f a b held_a held_b))
 
-  pub product_fine : Ranged f least reach (mul f a b) → Fine f reach (mul f a b)
-  product_fine (n, s, l) = (mul-fits f a b, n, s)
-
-  pub product_yes : Ranged f least reach (mul f a b) → some (value f (mul f a b)) ≡ product m (value f a) (value f b)
+  product_yes : Ranged f least reach (mul f a b) → some (value f (mul f a b)) ≡ product m (value f a) (value f b)
   product_yes (n, s, l) =
       product_is m (value f a) (value f b) (value f (mul f a b)) (sym (product_rounded.exact (subst T (sym n) tt))) (at_least f least reach m M (mul f a b) l) (at_most f least reach m M (mul f a b) s)
 
-  pub product_no : (magnitude f a ≡ 0 → ⊥) → (magnitude f b ≡ 0 → ⊥) → (Ranged f least reach (mul f a b) → ⊥) → none ≡ product m (value f a) (value f b)
+  product_no : (magnitude f a ≡ 0 → ⊥) → (magnitude f b ≡ 0 → ⊥) → (Ranged f least reach (mul f a b) → ⊥) → none ≡ product m (value f a) (value f b)
   product_no za zb h =
       product_not m (value f a) (value f b) (m.rounding exact (m.Q * m.Q)) refl (λ e. none_zero (magnitude f a) (magnitude f b) za zb (sym exact_size ∙ e))
       (outside f least reach m M (mul f a b) (m.rounding exact (m.Q * m.Q)) product_rounded h)
@@ -61,7 +58,7 @@ module _ (f : Format) (least reach : ℕ) (m : Meaning) (M : Means f least reach
   exact_nil : (magnitude f a ≡ 0) ⊎ (magnitude f b ≡ 0) → nat_abs exact ≡ 0
   exact_nil z = exact_size ∙ nil_of (magnitude f a) (magnitude f b) z
 
-  pub product_nil : (magnitude f a ≡ 0) ⊎ (magnitude f b ≡ 0) → some (pos 0) ≡ product m (value f a) (value f b)
+  product_nil : (magnitude f a ≡ 0) ⊎ (magnitude f b ≡ 0) → some (pos 0) ≡ product m (value f a) (value f b)
   product_nil z = product_zero m (value f a) (value f b) (pos 0) (rounds_product f least reach m M exact ∙ rounding_nil (prec f) exact (2 ^ low f) (pow_pos (low f)) (exact_nil z)) (exact_nil z)
 
   -- ---- a product with a factor zero is a float that is zero, of either sign
@@ -102,23 +99,18 @@ module _ (f : Format) (least reach : ℕ) (m : Meaning) (M : Means f least reach
           (within_value f (mul f a b) (2 ^ reach) r.1) (over_value f (mul f a b) (2 ^ suc M.below) (subst (λ (k : ℕ). 2 ^ k ≤ magnitude f (mul f a b)) M.least_is r.2)),
     )
 
+  -- ---- the split
   module _ (R : Rules m) where
-    -- y is the error part as a function gave it
-    pub split_yes : (r : Ranged f least reach (mul f a b)) (y : Float) → y ≡ tail f a b (mul f a b)
-        → (some (record { main = value f (mul f a b); error = value f y }) ≡ product_split m (value f a) (value f b)) × (Number m (value f (mul f a b)) × Number m (value f y))
-    split_yes r y ey =
+    pub split_yes : (r : Ranged f least reach (mul f a b)) → product_split m (value f a) (value f b) ≡ some (record { main = value f (mul f a b); error = value f (tail f a b (mul f a b)) })
+    split_yes r =
         let x = mul f a b in
-        let t = tail f a b x in (
-          ap (λ (z : Float). some (record { main = value f x; error = value f z })) ey
-              ∙ product_split_is m R (value f a) (value f b) (value f x) (value f t) (number_of f least reach m M a A) (number_of f least reach m M b B) (product_yes r)
-              (ap (λ (q : ℕ). (value f x +ℤ value f t) *ℤ pos q) M.scale ∙ (parts r).1),
-          (number_of f least reach m M x (product_fine r), subst (λ (z : Float). Number m (value f z)) (sym ey) (number_of f least reach m M t (tail_fine r))),
-        )
+        let t = tail f a b x in
+        sym (product_split_is m R (value f a) (value f b) (value f x) (value f t) (number_of f least reach m M a A) (number_of f least reach m M b B) (product_yes r)
+        (ap (λ (q : ℕ). (value f x +ℤ value f t) *ℤ pos q) M.scale ∙ (parts r).1))
 
-    pub split_nil : (x y : ℤ) → x ≡ pos 0 → y ≡ pos 0 → (magnitude f a ≡ 0) ⊎ (magnitude f b ≡ 0) → some (record { main = x; error = y }) ≡ product_split m (value f a) (value f b)
-    split_nil x y ex ey z =
-        ap (λ (v : ℤ). some (record { main = v; error = y })) ex ∙ ap (λ (v : ℤ). some (record { main = pos 0; error = v })) ey
-        ∙ product_split_is m R (value f a) (value f b) (pos 0) (pos 0) (number_of f least reach m M a A) (number_of f least reach m M b B) (product_nil z) (nil_times m.Q ∙ sym (zero_abs exact (exact_nil z)))
+    pub split_nil : (magnitude f a ≡ 0) ⊎ (magnitude f b ≡ 0) → product_split m (value f a) (value f b) ≡ some (record { main = pos 0; error = pos 0 })
+    split_nil z =
+        sym (product_split_is m R (value f a) (value f b) (pos 0) (pos 0) (number_of f least reach m M a A) (number_of f least reach m M b B) (product_nil z) (nil_times m.Q ∙ sym (zero_abs exact (exact_nil z))))
 
-  pub split_no : (magnitude f a ≡ 0 → ⊥) → (magnitude f b ≡ 0 → ⊥) → (Ranged f least reach (mul f a b) → ⊥) → none ≡ product_split m (value f a) (value f b)
-  split_no za zb h = product_split_not m (value f a) (value f b) (product_no za zb h)
+  pub split_no : (magnitude f a ≡ 0 → ⊥) → (magnitude f b ≡ 0 → ⊥) → (Ranged f least reach (mul f a b) → ⊥) → product_split m (value f a) (value f b) ≡ none
+  split_no za zb h = sym (product_split_not m (value f a) (value f b) (product_no za zb h))

@@ -10,4 +10,3 @@ pub mod BitLimits
 pub mod BitOrder
 pub mod Written
 pub mod SumAnswers
-pub mod NotNan

@@ -1,7 +1,7 @@
 -- Sums of floats answer what the definitions say. The rounded sum of two numbers is finite, and TwoSum's second float is the
 -- exact error: both are facts of rounding; the definitions then only ask for the size of the rounded sum.
 use Rattle.std.specs.Prelude.{◌≡◌, ℕ, ◌^◌, ◌≤◌, true, T, ◌+ℤ◌, Float}
-use Rattle.std.proofs.Common.{sym, ap, ◌∙◌, subst, le_trans, le_of_eq}
+use Rattle.std.proofs.Common.{sym, ◌∙◌, subst, le_trans, le_of_eq}
 use Rattle.std.proofs.Math.Option.{none, some}
 use Rattle.std.specs.Float.{Format}
 use Rattle.std.specs.Float.Ieee.{add}
@@ -13,10 +13,10 @@ use Rattle.rounding.proofs.Floats.{Held, value_size, within_value}
 use Rattle.rounding.proofs.FloatSums.{two_sum_floats, rest_within}
 use Rattle.rounding.proofs.FloatRounding.{add_rounds}
 use Rattle.rounding.proofs.TwoProduct.{size_le}
-use Rattle.arithmetic.specs.Meaning.{Meaning, Number}
+use Rattle.arithmetic.specs.Meaning.{Meaning}
 use Rattle.arithmetic.specs.Operations.{sum, sum_split}
 use Rattle.arithmetic.proofs.Answers.{sum_is, sum_not, sum_split_is, sum_split_not}
-use Rattle.binary64.specs.Means.{Means, Fine, held, true_of, rounds_sum, at_most, small_of, number_of}
+use Rattle.binary64.specs.Means.{Means, Fine, held, true_of, rounds_sum, at_most, small_of}
 
 module _ (f : Format) (least reach : ℕ) (m : Meaning) (M : Means f least reach m) (a b : Float) (A : Fine f reach a) (B : Fine f reach b) where
   held_a : Held f a
@@ -42,28 +42,17 @@ module _ (f : Format) (least reach : ℕ) (m : Meaning) (M : Means f least reach
   sum_value : m.rounding (value f a +ℤ value f b) m.Q ≡ value f (add f a b)
   sum_value = rounds_sum f least reach m M (value f a +ℤ value f b) ∙ sym ((add_rounds f a b held_a held_b).0 (subst T (sym sum_finite) tt))
 
-  pub sum_fine : magnitude f (add f a b) ≤ 2 ^ reach → Fine f reach (add f a b)
-  sum_fine s = (add-fits f a b, sum_finite, s)
-
-  pub sum_yes : magnitude f (add f a b) ≤ 2 ^ reach → some (value f (add f a b)) ≡ sum m (value f a) (value f b)
+  sum_yes : magnitude f (add f a b) ≤ 2 ^ reach → some (value f (add f a b)) ≡ sum m (value f a) (value f b)
   sum_yes s = sum_is m (value f a) (value f b) (value f (add f a b)) sum_value (at_most f least reach m M (add f a b) s)
 
-  pub sum_no : (magnitude f (add f a b) ≤ 2 ^ reach → ⊥) → none ≡ sum m (value f a) (value f b)
+  sum_no : (magnitude f (add f a b) ≤ 2 ^ reach → ⊥) → none ≡ sum m (value f a) (value f b)
   sum_no s = sum_not m (value f a) (value f b) (value f (add f a b)) sum_value (λ h. s (small_of f least reach m M (add f a b) h))
 
-  -- ---- where the two floats were given by a function
-  pub split_yes : (x y : Float) → x ≡ add f a b → y ≡ rest f a b → magnitude f x ≤ 2 ^ reach
-      → (some (record { main = value f x; error = value f y }) ≡ sum_split m (value f a) (value f b)) × (Number m (value f x) × Number m (value f y))
-  split_yes x y ex ey s =
-      let s' = subst (λ (z : Float). magnitude f z ≤ 2 ^ reach) ex s in (
-        ap (λ (z : Float). some (record { main = value f z; error = value f y })) ex ∙ ap (λ (z : Float). some (record { main = value f (add f a b); error = value f z })) ey
-            ∙ sum_split_is m (value f a) (value f b) (value f (add f a b)) (value f (rest f a b)) (sum_yes s')
-            (two_sum_floats f reach a b M.sum_room held_a held_b (within_value f a (2 ^ reach) A.2) (within_value f b (2 ^ reach) B.2)).2,
-        (
-          subst (λ (z : Float). Number m (value f z)) (sym ex) (number_of f least reach m M (add f a b) (sum_fine s')),
-          subst (λ (z : Float). Number m (value f z)) (sym ey) (number_of f least reach m M (rest f a b) rest_fine),
-        ),
-      )
+  -- ---- the split
+  pub split_yes : magnitude f (add f a b) ≤ 2 ^ reach → sum_split m (value f a) (value f b) ≡ some (record { main = value f (add f a b); error = value f (rest f a b) })
+  split_yes s =
+      sym (sum_split_is m (value f a) (value f b) (value f (add f a b)) (value f (rest f a b)) (sum_yes s)
+      (two_sum_floats f reach a b M.sum_room held_a held_b (within_value f a (2 ^ reach) A.2) (within_value f b (2 ^ reach) B.2)).2)
 
-  pub split_no : (x : Float) → x ≡ add f a b → (magnitude f x ≤ 2 ^ reach → ⊥) → none ≡ sum_split m (value f a) (value f b)
-  split_no x e h = sum_split_not m (value f a) (value f b) (sum_no (λ s. h (subst (λ (z : Float). magnitude f z ≤ 2 ^ reach) (sym e) s)))
+  pub split_no : (magnitude f (add f a b) ≤ 2 ^ reach → ⊥) → sum_split m (value f a) (value f b) ≡ none
+  split_no h = sym (sum_split_not m (value f a) (value f b) (sum_no h))

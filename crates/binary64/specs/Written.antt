@@ -1,6 +1,6 @@
 -- The one pattern of a number. `float_of z` is the float of z units, zero without a sign. A float of any sign plus zero is that
 -- float, its bits are those that the definition writes, and they are admitted as z.
-use Rattle.std.specs.Prelude.{◌≡◌, ℕ, zero, suc, ◌+◌, ◌-◌, ◌*◌, ◌/◌, ◌^◌, ◌<◌, ◌≤◌, Bool, true, false, cond, not, ◌&&◌, T, ℤ, pos, negsuc, ◌+ℤ◌, neg_ℤ, is_nan, nat_lt, to_bits, unsigned_abs, refl, Float}
+use Rattle.std.specs.Prelude.{◌≡◌, ℕ, zero, suc, ◌+◌, ◌-◌, ◌*◌, ◌/◌, ◌^◌, ◌<◌, ◌≤◌, Bool, true, false, cond, not, ◌&&◌, T, ℤ, pos, negsuc, ◌+ℤ◌, neg_ℤ, nat_lt, to_bits, unsigned_abs, refl, Float}
 use Rattle.std.proofs.Common.{sym, ap, ◌∙◌, subst, zero-le, le_trans, zero-add, mul-pos, mul-one, zero-mul, lt_irrefl, mul_comm, arith, lit<, ltb→lt, lt→ltb, nltb→le, pow_pos, pow_mono}
 use Rattle.std.proofs.Math.Nat.{pow-succ'}
 use Rattle.std.specs.Float.{nan, inf, fin, binary64}
@@ -26,7 +26,6 @@ use Rattle.binary64.specs.TheMeans.{means}
 use Rattle.binary64.specs.BitOrder.{code, size_gt}
 use Rattle.binary64.specs.BitLimits.{bits_of}
 use Rattle.binary64.specs.Fields.{own_admission, reads_number}
-use Rattle.binary64.specs.NotNan.{finite_no_nan}
 
 unfoldable float_of : ℤ → Float
 float_of (pos n) = round binary64 false n (2 ^ low binary64)
@@ -92,7 +91,7 @@ pub nil_is : of_bits binary64 0 ≡ fin false 0 (pos 0)
 unfolding of_bits
 nil_is = refl
 
-pub nil_fine : Fine binary64 reach (of_bits binary64 0)
+nil_fine : Fine binary64 reach (of_bits binary64 0)
 unfolding of_bits magnitude
 nil_fine = (of_bits-fits binary64 0, refl, zero-le)
 
@@ -168,7 +167,7 @@ module _ (x : Float) (X : Fine binary64 reach x) where
   plain_is : sum_zero ≡ float_of (value binary64 x)
   plain_is = ap (add binary64 x) nil_is ∙ plus_zero x (held binary64 x X.0 X.1)
 
-  plain_finite : finite sum_zero ≡ true
+  pub plain_finite : finite sum_zero ≡ true
   plain_finite = sum_finite binary64 least reach meaning means x (of_bits binary64 0) X nil_fine
 
   plain_value : value binary64 sum_zero ≡ value binary64 x
@@ -178,9 +177,6 @@ module _ (x : Float) (X : Fine binary64 reach x) where
     where
       plus_nothing : (z : ℤ) → z +ℤ pos 0 ≡ z
       plus_nothing z = omega (arith, ints)
-
-  pub plain_no_nan : T (not (is_nan sum_zero))
-  plain_no_nan = finite_no_nan sum_zero plain_finite
 
   pub plain_written : to_bits binary64 sum_zero ≡ written (value binary64 x)
   plain_written = ap (to_bits binary64) plain_is ∙ written_is (value binary64 x) (ap finite (sym plain_is) ∙ plain_finite) (ap (value binary64) (sym plain_is) ∙ plain_value)

@@ -14,6 +14,7 @@ use arithmetic::cause::Cause;
 const INFINITY_BITS: u64 = 0x7ff0_0000_0000_0000;
 
 // The number of a bit pattern; 0 where it is none.
+#[tactic(auto, using(crate::proofs::BitTests::readings, crate::proofs::Numbers::numbers))]
 pub(crate) fn read(bits: u64) -> Double
     ensures answer { units result ≡ reads bits }
     ensures number { Number meaning (units result) }
@@ -27,6 +28,7 @@ pub(crate) fn read(bits: u64) -> Double
 }
 
 // The one bit pattern of a number: adding 0 turns minus zero into zero.
+#[tactic(auto, using(crate::specs::Written::plain_finite, crate::specs::Written::plain_written, crate::specs::Written::plain_back, crate::proofs::Numbers::numbers))]
 pub(crate) fn plain(a: Double) -> u64
     ensures answer { result ≡ written (units a) }
     ensures back { reads result ≡ units a }
@@ -35,6 +37,7 @@ pub(crate) fn plain(a: Double) -> u64
 }
 
 // The number of a bit pattern, or the cause of its refusal.
+#[tactic(auto, using(crate::proofs::BitTests::admissions, crate::proofs::Numbers::numbers))]
 pub(crate) fn checked(bits: u64) -> Result<Double, Cause>
     ensures answer { admission units result ≡ admission_of bits }
     ensures number { Admits meaning units result }
@@ -52,6 +55,7 @@ pub(crate) fn checked(bits: u64) -> Result<Double, Cause>
 }
 
 // The number that eight bytes are admitted as, or the cause of their refusal.
+#[tactic(auto, using(crate::specs::TheRules::admit_is))]
 pub(crate) fn admit(bytes: &[u8; 8]) -> Result<Double, Cause>
     ensures answer { admission units result ≡ meaning.admit bytes.now }
     ensures number { Admits meaning units result }
@@ -60,6 +64,7 @@ pub(crate) fn admit(bytes: &[u8; 8]) -> Result<Double, Cause>
 }
 
 // The eight bytes of a number.
+#[tactic(auto, using(crate::specs::TheRules::pattern_is))]
 pub(crate) fn pattern(a: Double) -> [u8; 8]
     ensures { result ≡ meaning.pattern (units a) }
 {

@@ -8,6 +8,7 @@ ghost use Rattle.binary64.specs.Doubles.{units};
 use crate::double::Double;
 use crate::limits::{SIGN, in_range, is_zero};
 
+#[tactic(auto, using(crate::proofs::BitTests::finite_bits, crate::specs::Written::nil_value, crate::proofs::Numbers::numbers))]
 pub(crate) fn zero() -> Double
     ensures answer { units result ≡ pos 0 }
     ensures number { Number meaning (units result) }
@@ -15,6 +16,7 @@ pub(crate) fn zero() -> Double
     Double { x: 0.0 }
 }
 
+#[tactic(auto, using(crate::proofs::BitTests::finite_bits, crate::proofs::Numbers::one_value, crate::proofs::Numbers::numbers))]
 pub(crate) fn one() -> Double
     ensures answer { units result ≡ pos meaning.Q }
     ensures number { Number meaning (units result) }
@@ -23,6 +25,7 @@ pub(crate) fn one() -> Double
 }
 
 // The absolute value: the sign's bit is cleared.
+#[tactic(auto, using(crate::proofs::BitTests::finite_bits, crate::proofs::Signs::sizes, crate::proofs::Numbers::numbers))]
 pub(crate) fn size(a: Double) -> Double
     ensures answer { units result ≡ size_of (units a) }
     ensures number { Number meaning (units result) }
@@ -32,6 +35,7 @@ pub(crate) fn size(a: Double) -> Double
     }
 }
 
+#[tactic(auto, using(crate::proofs::Signs::negatives, crate::proofs::Numbers::numbers))]
 pub(crate) fn negative(a: Double) -> Double
     ensures answer { units result ≡ neg_ℤ (units a) }
     ensures number { Number meaning (units result) }
@@ -40,6 +44,7 @@ pub(crate) fn negative(a: Double) -> Double
 }
 
 // Whether a is at most b.
+#[tactic(auto, using(crate::proofs::Comparisons::le_is))]
 pub(crate) fn at_most(a: Double, b: Double) -> bool
     ensures { result ≡ int_le (units a) (units b) }
 {
@@ -47,6 +52,7 @@ pub(crate) fn at_most(a: Double, b: Double) -> bool
 }
 
 // Whether a is zero, or from 2^-900 to 2^900 in size.
+#[tactic(auto, using(crate::proofs::Comparisons::limits, crate::proofs::Numbers::numbers))]
 pub(crate) fn is_in_limits(a: Double) -> bool
     ensures { result ≡ in_limits meaning (units a) }
 {

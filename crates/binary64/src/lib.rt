@@ -21,8 +21,7 @@ mod sums;
 #[derive(Clone, Copy)]
 pub struct Binary64;
 
-// Each method is one call: the bodies stand by topic in the modules, each with its proof. A wrong call here is then found in the
-// method, which has no proof file.
+// Each method is one call: the bodies stand by topic in the modules, and are proved there from lemmas over floats.
 impl Arithmetic for Binary64 {
     type Number = Double;
     // the 64 bits

@@ -12,6 +12,7 @@ use crate::limits::{in_range, is_zero};
 use crate::steps;
 
 // The grain k u, which is exact.
+#[tactic(auto, using(crate::proofs::GrainFloats::grains, crate::proofs::Numbers::numbers))]
 pub(crate) fn grain(k: u8) -> Double
     requires few { k ≤ 192 }
     ensures answer { units result ≡ grain_of meaning k }
@@ -21,6 +22,7 @@ pub(crate) fn grain(k: u8) -> Double
 }
 
 // a lifted by k: a / (1 - k u), rounded once, since 1 - k u is exact.
+#[tactic(auto, using(crate::proofs::LiftFloats::lifts, crate::proofs::Numbers::numbers))]
 pub(crate) fn lift(a: Double, k: u8) -> Option<Double>
     requires few { k ≤ 192 }
     ensures answer { valued units result ≡ lifted meaning (units a) k }

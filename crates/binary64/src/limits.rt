@@ -13,6 +13,7 @@ pub(crate) const HIGH_BITS: u64 = 0x7830_0000_0000_0000;
 pub(crate) const SIGN: u64 = 0x8000_0000_0000_0000;
 
 // Whether x, which is no NaN, is finite and at most 2^900 in size.
+#[tactic(auto, using(crate::specs::BitLimits::high_in, crate::specs::BitLimits::high_out))]
 pub(crate) fn at_most_high(x: f64) -> bool
     requires { T (not (is_nan x)) }
     ensures yes { result ≡ true → (finite x ≡ true) × Small x }
@@ -22,6 +23,7 @@ pub(crate) fn at_most_high(x: f64) -> bool
 }
 
 // Whether x, which is no NaN, is from 2^-900 to 2^900 in size.
+#[tactic(auto, using(crate::specs::BitLimits::range_once_in, crate::specs::BitLimits::range_once_out))]
 pub(crate) fn in_range(x: f64) -> bool
     requires { T (not (is_nan x)) }
     ensures yes { result ≡ true → InRange x }
@@ -31,6 +33,7 @@ pub(crate) fn in_range(x: f64) -> bool
 }
 
 // Whether a finite x is zero, of either sign.
+#[tactic(auto, using(crate::proofs::Comparisons::zero_yes, crate::proofs::Comparisons::zero_no))]
 pub(crate) fn is_zero(x: f64) -> bool
     requires { finite x ≡ true }
     ensures yes { result ≡ true → magnitude binary64 x ≡ 0 }

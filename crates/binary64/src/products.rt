@@ -11,6 +11,7 @@ use crate::limits::{in_range, one_zero};
 use crate::steps::product_error;
 
 // The rounded product and its error part, which is computed only where the product is in range.
+#[tactic(auto, using(crate::proofs::ProductFloats::products, crate::proofs::Numbers::numbers))]
 pub(crate) fn split_product(a: Double, b: Double) -> Option<(Double, Double)>
     ensures answer { split_valued units result ≡ product_split meaning (units a) (units b) }
     ensures number { GivesBoth meaning units result }

@@ -10,6 +10,7 @@ use crate::limits::at_most_high;
 use crate::steps::two_sum;
 
 // The rounded sum and its error part.
+#[tactic(auto, using(crate::proofs::SumFloats::sums, crate::proofs::Numbers::numbers))]
 pub(crate) fn split_sum(a: Double, b: Double) -> Option<(Double, Double)>
     ensures answer { split_valued units result ≡ sum_split meaning (units a) (units b) }
     ensures number { GivesBoth meaning units result }
