@@ -1,13 +1,20 @@
 -- The one form by the significand's size and the zeros behind it, in naturals: with k zeros, e is k − 70. What M and e are
 -- admitted as is then read off that form and the size in units; and what is admitted is a number, since its significand is
 -- below 10^d.
-use Rattle.std.proofs.Common.{◌≡◌, ℕ, ◌-◌, ◌*◌, ◌^◌, ◌<◌, ◌≤◌, Bool, true, false, cond, ◌&&◌, ◌||◌, eqb, ltb, leb, ℤ, pos, negsuc, ◌+ℤ◌, ◌-ℤ◌, ◌*ℤ◌, nat_abs, ◌≤ℤ◌, sym, refl, ap, ◌∙◌, subst, arith}
+use Rattle.std.proofs.Common.{◌≡◌, ℕ, ◌-◌, ◌*◌, ◌^◌, ◌<◌, ◌≤◌, Bool, true, false, cond, ◌&&◌, ◌||◌, eqb, ltb, leb, ℤ, pos, negsuc, ◌+ℤ◌, ◌-ℤ◌, ◌*ℤ◌, nat_abs, ◌≤ℤ◌, Some, None, Option, sym, refl, ap, ◌∙◌, subst, lt_of_lt_of_le, arith, w16, w32, w64, SFits, to_z, of_z}
 use lib.Signed.{le_z_yes}
-use Rattle.std.proofs.lemmas.Int.{ints}
+use Rattle.std.specs.Option.{ok_or}
+use Rattle.std.proofs.lemmas.Int.{ints, to_z-of_z}
 use Rattle.std.proofs.lemmas.Bool.{leb-true, leb-false, le-leb, lt-leb}
 use Rattle.std.proofs.lemmas.Bool.Decides.{nat_tests}
 use Rattle.integers.proofs.Integers.{abs_mul}
 use Rattle.arithmetic.specs.Meaning.{Admission, number, not_admitted, Number}
+use Rattle.arithmetic.specs.Setting.{Admits, admission as admission_by}
+use Rattle.arithmetic.specs.declared.cause.Cause.TheVariants.{TooLarge}
+use Rattle.scientific.specs.Numbers.{units, Formed}
+use Rattle.scientific.specs.declared.number.Scientific.{Scientific}
+use Rattle.scientific.proofs.Casts.{size_read, eight_digits}
+use Rattle.scientific.proofs.Meanings.{bounded}
 use Rattle.scientific.specs.Forms.{with_zeros, is_form, highest}
 use Rattle.scientific.specs.Patterns.{from_to, has_digits, has_fewer, one_form, units_of, admission, reads, meaning}
 use Rattle.scientific.specs.declared.precision.Precision.{Precision}
@@ -30,7 +37,7 @@ outside : (d : ℕ) (e a b : ℤ) → d ≤ 8 → from_to (negsuc 69) (pos (41 -
 outside d e a b h l p q = grind (arith, ints, nat_tests)
 
 -- the zeros that an exponent in the range stands for
-pub record Zeros (d : ℕ) (e : ℤ) : Type 0 where
+record Zeros (d : ℕ) (e : ℤ) : Type 0 where
   pub k : ℕ
   pub is : e ≡ pos k -ℤ pos 70
   pub few : k ≤ 111 - d
@@ -81,12 +88,12 @@ admission_large d M k h l f s = sym (admission_is d M k h l ∙ ap (outcome d M 
 admission_other : (d : ℕ) (M : ℤ) (k : ℕ) → d ≤ 8 → k ≤ 111 - d → is_form d (nat_abs M) k ≡ false → not_admitted 3 ≡ admission d M (pos k -ℤ pos 70)
 admission_other d M k h l f = sym (admission_is d M k h l ∙ ap (outcome d M k) f)
 
-pub admission_out : (d : ℕ) (M e : ℤ) → d ≤ 8 → from_to (negsuc 69) (pos (41 - d)) e ≡ false → not_admitted 3 ≡ admission d M e
+admission_out : (d : ℕ) (M e : ℤ) → d ≤ 8 → from_to (negsuc 69) (pos (41 - d)) e ≡ false → not_admitted 3 ≡ admission d M e
 unfolding admission
 admission_out d M e h l = ap (λ (t : Bool). cond t (cond (leb (nat_abs (units_of M e)) highest) (number (units_of M e)) (not_admitted 2)) (not_admitted 3)) (sym (form_not d M e h l))
 
 -- ---- what is admitted is a number
-pub few_digits : (d m k : ℕ) → is_form d m k ≡ true → m < 10 ^ d
+few_digits : (d m k : ℕ) → is_form d m k ≡ true → m < 10 ^ d
 few_digits d m k f = small m (10 ^ d) (10 ^ (d - 1)) k (some_ten d) f
   where
     small : (m L H k : ℕ) → 0 < L → cond (eqb m 0) (eqb k 70) (ltb m L && (eqb k 0 || leb H m)) ≡ true → m < L
@@ -146,3 +153,34 @@ module _ (p : Precision) (M e : ℤ) (s k : ℕ) (size : s ≡ nat_abs M) (behin
     where
       small : nat_abs M * 10 ^ k ≤ highest
       small = rw (← size_with M k, ← q) l
+
+-- ---- what code answers
+pub out_of_range : (p : Precision) (M e : ℤ) → from_to (negsuc 69) (pos (41 - p.digits)) e ≡ false → admission p.digits M e ≡ not_admitted 3
+out_of_range p M e h = sym (admission_out p.digits M e p.most h)
+
+pub form_eight : (d s k : ℕ) → d ≤ 8 → true ≡ is_form d s k → s < 100000000
+form_eight d s k h f = lt_of_lt_of_le (few_digits d s k (sym f)) (tens d 8 h)
+
+module _ (p : Precision) (M e : ℤ) (s k : ℕ) (size : s ≡ nat_abs (to_z w32 (of_z w32 M))) (range_M : SFits w32 M) (range_e : SFits w16 e) (e_is : to_z w16 (of_z w16 e) ≡ pos k -ℤ pos 70) (few : k ≤ 111 - p.digits) where
+  own_size : s ≡ nat_abs M
+  own_size = size_read s M range_M size
+
+  behind : (e ≡ pos k -ℤ pos 70) × (k ≤ 111 - p.digits)
+  behind = (sym (to_z-of_z w16 e range_e) ∙ e_is, few)
+
+  pub other_form : false ≡ is_form p.digits s k → admission p.digits M e ≡ not_admitted 3
+  other_form f = sym (parts_other p M e s k own_size behind f)
+
+  module _ (f : true ≡ is_form p.digits s k) where
+    kept : to_z w64 (of_z w64 (to_z w32 (of_z w32 M))) ≡ M
+    kept = rw (to_z-of_z w32 M range_M) (eight_digits M (rw own_size at (form_eight p.digits s k p.most f)))
+
+    outcome_of : (o : Option Scientific) → Formed (with_zeros M k) o → (admission p.digits M e ≡ admission_by units (ok_or o TooLarge)) × Admits (meaning p.digits) units (ok_or o TooLarge)
+    outcome_of (Some x) q = let t = parts_number p M e s k own_size behind (units x) f q (bounded x) in (sym t.0, t.1)
+    outcome_of None q = (sym (parts_large p M e s k own_size behind f q), tt)
+
+    pub made : (o : Option Scientific) → Formed (with_zeros (to_z w64 (of_z w64 (to_z w32 (of_z w32 M)))) k) o → admission p.digits M e ≡ admission_by units (ok_or o TooLarge)
+    made o q = (outcome_of o (rw kept at q)).0
+
+    pub made_number : (o : Option Scientific) → Formed (with_zeros (to_z w64 (of_z w64 (to_z w32 (of_z w32 M)))) k) o → Admits (meaning p.digits) units (ok_or o TooLarge)
+    made_number o q = (outcome_of o (rw kept at q)).1

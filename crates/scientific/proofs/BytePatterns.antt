@@ -1,11 +1,12 @@
 -- Eight bytes and back: what is taken apart into bytes is put together again, and two's complement of an integer that is small
 -- enough stands for that integer. So the pattern of a number is admitted as the number.
-use Rattle.std.proofs.Common.{◌≡◌, ℕ, ◌+◌, ◌-◌, ◌*◌, ◌/◌, ◌%◌, ◌^◌, ◌<◌, ◌≤◌, Bool, true, false, cond, ◌&&◌, eqb, ◌⊎◌, List, length, get_or, ℤ, pos, negsuc, ◌-ℤ◌, nat_abs, sym, refl, ap, ◌∙◌, lt_of_lt_of_le, div-add-mod', arith, lit≤, w16, w32, SFits, to_z, of_z}
+use Rattle.std.proofs.Common.{◌≡◌, ℕ, ◌+◌, ◌-◌, ◌*◌, ◌/◌, ◌%◌, ◌^◌, ◌<◌, ◌≤◌, Bool, true, false, cond, ◌&&◌, eqb, List, length, get_or, ℤ, pos, negsuc, ◌-ℤ◌, nat_abs, sym, refl, ap, ◌∙◌, lt_of_lt_of_le, div-add-mod', arith, lit≤, w16, w32, SFits, to_z, of_z}
 use native.Mathlib.Nat.{div-div-eq-div-mul}
 use Rattle.std.proofs.lemmas.Int.{ints}
 use Rattle.std.proofs.lemmas.Bool.Decides.{nat_tests}
 use Rattle.arithmetic.specs.Meaning.{Admission, number, not_admitted, Number}
 use Rattle.scientific.specs.Forms.{highest}
+use Rattle.scientific.specs.declared.written.Written.{Written}
 use Rattle.scientific.specs.Patterns.{zeros, written, admission, from_complement, complement, M_in, e_in, ends_in_zeros, admitted, bytes, pattern, meaning}
 use Rattle.scientific.proofs.Tens.{tens}
 use Rattle.scientific.proofs.NumberOf.{bound_of}
@@ -91,20 +92,26 @@ of_16 (negsuc n) f = let h = f.sfits in omega arith
 abbrev outcome : ℕ → List ℕ → Bool → Admission
 outcome d bs t = cond t (admission d (M_in bs) (e_in bs)) (not_admitted 3)
 
-pub admit_other : (d : ℕ) (bs : List ℕ) → (get_or bs 6 0 ≡ 0 → ⊥) ⊎ (get_or bs 7 0 ≡ 0 → ⊥) → not_admitted 3 ≡ (meaning d).admit bs
+pub sixth_other : (d : ℕ) (bs : List ℕ) → (get_or bs 6 0 ≡ 0 → ⊥) → (meaning d).admit bs ≡ not_admitted 3
 unfolding meaning admitted
-admit_other d bs n = ap (outcome d bs) (sym (test (get_or bs 6 0) (get_or bs 7 0) n))
+sixth_other d bs n = ap (outcome d bs) (test (get_or bs 6 0) (get_or bs 7 0) n)
   where
-    test : (x y : ℕ) → (x ≡ 0 → ⊥) ⊎ (y ≡ 0 → ⊥) → (eqb x 0 && eqb y 0) ≡ false
+    test : (x y : ℕ) → (x ≡ 0 → ⊥) → (eqb x 0 && eqb y 0) ≡ false
     test x y n = grind (arith, nat_tests)
 
-pub admit_parts : (d : ℕ) (bs : List ℕ) (M e : ℤ) (a : Admission) → ((i : ℕ) → get_or bs i 0 < 256) → get_or bs 6 0 ≡ 0 → get_or bs 7 0 ≡ 0
-    → M ≡ to_z w32 (get_or bs 0 0 * 16777216 + get_or bs 1 0 * 65536 + get_or bs 2 0 * 256 + get_or bs 3 0) → e ≡ to_z w16 (get_or bs 4 0 * 256 + get_or bs 5 0)
-    → a ≡ admission d M e → a ≡ (meaning d).admit bs
+pub seventh_other : (d : ℕ) (bs : List ℕ) → (get_or bs 7 0 ≡ 0 → ⊥) → (meaning d).admit bs ≡ not_admitted 3
 unfolding meaning admitted
-admit_parts d bs M e a f x y p q r =
-    r ∙ ap (λ (z : ℤ). admission d z e) (p ∙ to_32 _ (under_32 (get_or bs 0 0) (get_or bs 1 0) (get_or bs 2 0) (get_or bs 3 0) (f 0) (f 1) (f 2) (f 3)))
-    ∙ ap (admission d (M_in bs)) (q ∙ to_16 _ (under_16 (get_or bs 4 0) (get_or bs 5 0) (f 4) (f 5))) ∙ ap (outcome d bs) (sym (test (get_or bs 6 0) (get_or bs 7 0) x y))
+seventh_other d bs n = ap (outcome d bs) (test (get_or bs 6 0) (get_or bs 7 0) n)
+  where
+    test : (x y : ℕ) → (y ≡ 0 → ⊥) → (eqb x 0 && eqb y 0) ≡ false
+    test x y n = grind (arith, nat_tests)
+
+pub admit_parts : (d : ℕ) (bs : List ℕ) → ((i : ℕ) → get_or bs i 0 < 256) → get_or bs 6 0 ≡ 0 → get_or bs 7 0 ≡ 0
+    → (meaning d).admit bs ≡ admission d (to_z w32 (get_or bs 0 0 * 16777216 + get_or bs 1 0 * 65536 + get_or bs 2 0 * 256 + get_or bs 3 0)) (to_z w16 (get_or bs 4 0 * 256 + get_or bs 5 0))
+unfolding meaning admitted
+admit_parts d bs f x y =
+    ap (outcome d bs) (test (get_or bs 6 0) (get_or bs 7 0) x y)
+    ∙ sym (rw (to_32 _ (under_32 (get_or bs 0 0) (get_or bs 1 0) (get_or bs 2 0) (get_or bs 3 0) (f 0) (f 1) (f 2) (f 3)), to_16 _ (under_16 (get_or bs 4 0) (get_or bs 5 0) (f 4) (f 5))) refl)
   where
     under_32 : (a b c d : ℕ) → a < 256 → b < 256 → c < 256 → d < 256 → a * 16777216 + b * 65536 + c * 256 + d < 4294967296
     under_32 a b c d p q r s = omega arith
@@ -116,6 +123,6 @@ admit_parts d bs M e a f x y p q r =
     test x y p q = grind (arith, nat_tests)
 
 -- ---- what code writes
-pub pattern_parts : (d : ℕ) (z : ℤ) (M e : ℤ) → SFits w32 M → SFits w16 e → M ≡ (written d z).m → e ≡ (written d z).e → bytes (of_z w32 M) (of_z w16 e) ≡ (meaning d).pattern z
+pub pattern_parts : (d : ℕ) (z : ℤ) (w : Written) → w ≡ written d z → SFits w32 w.m → SFits w16 w.e → (meaning d).pattern z ≡ bytes (of_z w32 w.m) (of_z w16 w.e)
 unfolding meaning pattern
-pattern_parts d z M e f g p q = ap (λ (x : ℕ). bytes x (of_z w16 e)) (of_32 M f ∙ ap (complement 32) p) ∙ ap (bytes (complement 32 (written d z).m)) (of_16 e g ∙ ap (complement 16) q)
+pattern_parts d z w e f g = sym (ap (λ (x : ℕ). bytes x (of_z w16 w.e)) (of_32 w.m f) ∙ ap (bytes (complement 32 w.m)) (of_16 w.e g) ∙ ap (λ (w : Written). bytes (complement 32 w.m) (complement 16 w.e)) e)

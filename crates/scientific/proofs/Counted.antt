@@ -1,13 +1,14 @@
 -- Rounding n / den to d digits, by the count c of the digits of its whole part: with c − d zeros, and none where there are at most d
 -- digits, the significand is the nearest whole number. These are the exponent and the significand that the
 -- definition finds, since the exponent is the least at which d digits suffice.
-use Rattle.std.proofs.Common.{◌≡◌, ℕ, suc, ◌+◌, ◌-◌, ◌*◌, ◌/◌, ◌%◌, ◌^◌, ◌<◌, ◌≤◌, Bool, true, false, cond, ◌&&◌, ◌||◌, T, eqb, ltb, ℤ, pos, negsuc, neg_ℤ, nat_abs, ◌≤ℤ◌, sym, refl, ap, ◌∙◌, le_trans, lt_of_lt_of_le, lt_of_le_of_lt, mod-lt, mul_assoc, mul_comm, div-lt_iff_lt-mul, mul-le-mul_left, mul-pos, le-div_iff_mul-le, mul-one, add-one, div-le_self, arith, eqb→eq}
+use Rattle.std.proofs.Common.{◌≡◌, ℕ, suc, ◌+◌, ◌-◌, ◌*◌, ◌/◌, ◌%◌, ◌^◌, ◌<◌, ◌≤◌, cond, ◌&&◌, ◌||◌, eqb, ltb, ℤ, pos, negsuc, ◌-ℤ◌, neg_ℤ, nat_abs, ◌≤ℤ◌, refl, ap, ◌∙◌, le_trans, lt_of_lt_of_le, lt_of_le_of_lt, mod-lt, mul_assoc, mul_comm, div-lt_iff_lt-mul, mul-le-mul_left, mul-pos, le-div_iff_mul-le, mul-one, add-one, div-le_self, arith, w64, to_z, of_z}
 use native.Mathlib.Decide.{dec_le}
+use Rattle.std.proofs.Math.Nat.{mod-eq-sub-div-mul}
+use Rattle.std.proofs.lemmas.Bool.Decides.{nat_tests}
 use lib.Signed.{◌<ℤ◌}
 use Rattle.std.proofs.lemmas.Int.{ints}
 use Rattle.integers.proofs.Naturals.{before}
 use Rattle.integers.proofs.Ring.{ring, num, ◌⊗◌, ⊖◌}
-use Rattle.integers.proofs.Tests.{ltb_yes, ltb_no, eqb_yes}
 use Rattle.rounding.specs.Radix.{nearest, rounded, rounding}
 use Rattle.rounding.proofs.Nearest.{nearest_is}
 use Rattle.rounding.proofs.Rounded.{Rounds, rounds, one_rounds, at_most_digits}
@@ -60,54 +61,44 @@ module _ (d n den c : ℕ) (P : 1 ≤ d) (D : 0 < den) (C : Counts (n / den) c) 
       go (yes q) = q
       go (no q) = let k = before c (omega arith) in absurd (clash (10 ^ 19) (10 ^ k.0) (n / den) (tens 19 k.0 (omega (arith, k.1))) (C.1 k.0 k.1) (lt_of_le_of_lt (div-le_self n den) h))
 
--- ---- the nearest whole number, by the rest of the division and what it misses of the divisor
-pub up_more : (n d : ℕ) → 0 < d → d - n % d < n % d → n / d + 1 ≡ nearest n d
+-- ---- as the code works it out
+-- the nearest whole number, by the rest n − (n / d) · d and what it misses of d
+pub nearest_by_rest : (n d : ℕ) → 0 < d → nearest n d ≡ cond (ltb (d - (n - n / d * d)) (n - n / d * d) || (eqb (d - (n - n / d * d)) (n - n / d * d) && eqb (n / d % 2) 1)) (n / d + 1) (n / d)
 unfolding nearest
-up_more n d D h = add-one (n / d) ∙ ap (λ (t : Bool). cond (t || (eqb d (2 * (n % d)) && eqb (n / d % 2) 1)) (suc (n / d)) (n / d)) (sym (ltb_yes d (2 * (n % d)) (more (n % d) h)))
+nearest_by_rest n d D = rw (← mod-eq-sub-div-mul n d, add-one (n / d), ← over, ← tie) refl
   where
-    more : (r : ℕ) → d - r < r → d < 2 * r
-    more r h = omega arith
+    over : ltb d (2 * (n % d)) ≡ ltb (d - n % d) (n % d)
+    over = let l = mod-lt n D in grind (arith, nat_tests)
 
-pub up_tie : (n d : ℕ) → 0 < d → n % d ≡ d - n % d → n / d % 2 ≡ 1 → n / d + 1 ≡ nearest n d
-unfolding nearest
-up_tie n d D h o = add-one (n / d) ∙ sym (half (ltb d (2 * (n % d))) (eqb d (2 * (n % d))) (eqb (n / d % 2) 1) (eqb_yes d (2 * (n % d)) (tie (n % d) (mod-lt n D) h)) (eqb_yes (n / d % 2) 1 o))
-  where
-    tie : (r : ℕ) → r < d → r ≡ d - r → d ≡ 2 * r
-    tie r l h = omega arith
+    tie : eqb d (2 * (n % d)) ≡ eqb (d - n % d) (n % d)
+    tie = let l = mod-lt n D in grind (arith, nat_tests)
 
-    half : (s t u : Bool) → t ≡ true → u ≡ true → cond (s || (t && u)) (suc (n / d)) (n / d) ≡ suc (n / d)
-    half true t u e f = refl
-    half false true true e f = refl
-    half false false u e f = cc
-    half false true false e f = cc
+-- what is rounded, by the digits c of the quotient
+pub fits_64 : (d n den c : ℕ) → 1 ≤ d → 0 < den → n / den < 10 ^ c → ((k : ℕ) → c ≡ suc k → 10 ^ k ≤ n / den) → n < 2 ^ 62 → den < 2 ^ 64 → den * 10 ^ (c - d) < 18446744073709551616
+fits_64 d n den c P D u l h k = divisor_fits d n den c P D (u, l) (2 ^ 64) (omega arith) k
 
-pub down : (n d : ℕ) → 0 < d → n % d ≤ d - n % d → (n % d ≡ d - n % d → n / d % 2 ≡ 1 → ⊥) → n / d ≡ nearest n d
-unfolding nearest
-down n d D h o = sym (below (ltb d (2 * (n % d))) (eqb d (2 * (n % d))) (eqb (n / d % 2) 1) (ltb_no d (2 * (n % d)) (less (n % d) (mod-lt n D) h)) (λ t u. o (tie (n % d) (mod-lt n D) (eqb→eq d (2 * (n % d)) t)) (eqb→eq (n / d % 2) 1 u)))
-  where
-    less : (r : ℕ) → r < d → r ≤ d - r → 2 * r ≤ d
-    less r l h = omega arith
+pub zeros_15 : (d n den c : ℕ) → 4 ≤ d → 0 < den → n / den < 10 ^ c → ((k : ℕ) → c ≡ suc k → 10 ^ k ≤ n / den) → n < 2 ^ 62 → c - d ≤ 15
+zeros_15 d n den c P D u l h = let m = nineteen d n den c (omega arith) D (u, l) (omega arith) in omega arith
 
-    tie : (r : ℕ) → r < d → d ≡ 2 * r → r ≡ d - r
-    tie r l h = omega arith
+pub short_size : (d n den c : ℕ) → 1 ≤ d → 0 < den → n / den < 10 ^ c → ((k : ℕ) → c ≡ suc k → 10 ^ k ≤ n / den) → nearest n (den * 10 ^ (c - d)) ≤ 10 ^ d
+short_size d n den c P D u l = (quotient_counted d n den c P D (u, l)).1
 
-    below : (s t u : Bool) → s ≡ false → (T t → T u → ⊥) → cond (s || (t && u)) (suc (n / d)) (n / d) ≡ n / d
-    below true t u e f = cc
-    below false true true e f = absurd (f tt tt)
-    below false true false e f = refl
-    below false false u e f = refl
+pub with_zeros_is : (d n den c : ℕ) → 1 ≤ d → 0 < den → n / den < 10 ^ c → ((k : ℕ) → c ≡ suc k → 10 ^ k ≤ n / den) → nearest n (den * 10 ^ (c - d)) * 10 ^ (c - d) ≡ rounded 10 d n den
+with_zeros_is d n den c P D u l = (quotient_counted d n den c P D (u, l)).0
 
--- ---- as the code works it out: m with x zeros, and then the sign of n
-pub rounds_size : (d n den c x p m : ℕ) → 1 ≤ d → 0 < den → Counts (n / den) c → x ≡ c - d → p ≡ 10 ^ x → m ≡ nearest n (den * p) → (m * 10 ^ x ≡ rounded 10 d n den) × (m ≤ 10 ^ d)
-rounds_size d n den c x p m P D C e f g = let q = quotient_counted d n den c P D C in
-    let same : m ≡ nearest n (den * 10 ^ (c - d)) = g ∙ ap (λ (y : ℕ). nearest n (den * y)) (f ∙ ap (λ (y : ℕ). 10 ^ y) e) in rw (same, e) q
-
-pub rounds_plus : (d : ℕ) (n : ℤ) (den m x : ℕ) → m * 10 ^ x ≡ rounded 10 d (nat_abs n) den → pos 0 ≤ℤ n → with_zeros (pos m) x ≡ rounding 10 d 1 n den
+pub rounding_plus : (d : ℕ) (n : ℤ) (den : ℕ) → pos 0 ≤ℤ n → rounding 10 d 1 n den ≡ pos (rounded 10 d (nat_abs n) den)
 unfolding rounding
-rounds_plus d (pos n) den m x e h = ap pos (e ∙ ap (λ (y : ℕ). rounded 10 d y den) (sym (mul-one n)))
-rounds_plus d (negsuc n) den m x e h = absurd (omega (arith, ints))
+rounding_plus d (pos n) den h = ap (λ (y : ℕ). pos (rounded 10 d y den)) (mul-one n)
+rounding_plus d (negsuc n) den h = absurd (omega (arith, ints))
 
-pub rounds_minus : (d : ℕ) (n : ℤ) (den m x : ℕ) → m * 10 ^ x ≡ rounded 10 d (nat_abs n) den → n <ℤ pos 0 → with_zeros (neg_ℤ (pos m)) x ≡ rounding 10 d 1 n den
+pub rounding_minus : (d : ℕ) (n : ℤ) (den : ℕ) → n <ℤ pos 0 → rounding 10 d 1 n den ≡ neg_ℤ (pos (rounded 10 d (nat_abs n) den))
 unfolding rounding
-rounds_minus d (pos n) den m x e h = absurd (omega (arith, ints))
-rounds_minus d (negsuc n) den m x e h = ring ((⊖ num m) ⊗ num (10 ^ x)) (⊖ num (m * 10 ^ x)) (omega arith) ∙ ap (λ (y : ℕ). neg_ℤ (pos y)) (e ∙ ap (λ (y : ℕ). rounded 10 d y den) (sym (mul-one (suc n))))
+rounding_minus d (pos n) den h = absurd (omega (arith, ints))
+rounding_minus d (negsuc n) den h = ap (λ (y : ℕ). neg_ℤ (pos (rounded 10 d y den))) (mul-one (suc n))
+
+-- the negative of a significand, as the machine has it
+pub minus_with : (m k : ℕ) → m ≤ 100000000 → with_zeros (to_z w64 (of_z w64 (pos 0 -ℤ to_z w64 m))) k ≡ neg_ℤ (pos (m * 10 ^ k))
+minus_with m k h = rw (kept m h) (ring ((⊖ num m) ⊗ num (10 ^ k)) (⊖ num (m * 10 ^ k)) (omega arith))
+  where
+    kept : (m : ℕ) → m ≤ 100000000 → to_z w64 (of_z w64 (pos 0 -ℤ to_z w64 m)) ≡ neg_ℤ (pos m)
+    kept m h = omega (arith, ints)

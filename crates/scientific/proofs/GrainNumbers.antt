@@ -1,12 +1,10 @@
 -- Grains: k u is 5 k units of 10^(70−d), since U times that is k Q.
-use Rattle.std.proofs.Common.{◌≡◌, ℕ, ◌+◌, ◌-◌, ◌*◌, ◌^◌, ◌<◌, ◌≤◌, ℤ, pos, ◌*ℤ◌, nat_abs, Some, None, Option, sym, refl, ap, ◌∙◌, subst, lt_irrefl, lt_of_lt_of_le, mul-pos, arith, lit<, pow-add}
-use Rattle.std.specs.Option.{IsSome}
+use Rattle.std.proofs.Common.{◌≡◌, ℕ, ◌+◌, ◌-◌, ◌*◌, ◌^◌, ◌<◌, ◌≤◌, pos, ◌*ℤ◌, nat_abs, sym, ap, ◌∙◌, mul-pos, arith, lit<, pow-add, w64, to_z, of_z}
+use Rattle.std.proofs.lemmas.Int.{ints}
 use Rattle.integers.proofs.Integers.{factor_cancels}
 use Rattle.arithmetic.specs.Meaning.{Number}
 use Rattle.arithmetic.specs.Operations.{grain}
-use Rattle.scientific.specs.declared.number.Scientific.{Scientific}
-use Rattle.scientific.specs.Forms.{highest}
-use Rattle.scientific.specs.Numbers.{Formed}
+use Rattle.scientific.specs.Forms.{with_zeros, highest}
 use Rattle.scientific.specs.Patterns.{meaning}
 use Rattle.scientific.specs.declared.precision.Precision.{Precision}
 use Rattle.scientific.proofs.Tens.{some_ten}
@@ -35,16 +33,25 @@ module _ (p : Precision) (k : ℕ) (few : k ≤ 192) where
   abbrev d : ℕ
   d = p.digits
 
-  grain_is : pos (k * 5 * 10 ^ (70 - d)) ≡ grain (meaning d) k
-  grain_is = factor_cancels (pos (k * 5 * 10 ^ (70 - d))) (grain (meaning d) k) (meaning d).U (some_U d) (times_U d k (omega arith) p.most ∙ sym ((rules p).grain_is_exact k few))
+  grain_units : pos (k * 5 * 10 ^ (70 - d)) ≡ grain (meaning d) k
+  grain_units = factor_cancels (pos (k * 5 * 10 ^ (70 - d))) (grain (meaning d) k) (meaning d).U (some_U d) (times_U d k (omega arith) p.most ∙ sym ((rules p).grain_is_exact k few))
+
+  -- 5 k as the machine has it
+  kept : to_z w64 (of_z w64 (to_z w64 k *ℤ pos 5)) ≡ pos (k * 5)
+  kept = omega (arith, ints, few)
+
+  pub grain_is : grain (meaning p.digits) k ≡ with_zeros (to_z w64 (of_z w64 (to_z w64 k *ℤ pos 5))) (70 - p.digits)
+  grain_is = rw kept (sym grain_units)
 
   -- it is not above 10^40
-  pub grain_some : (r : Option Scientific) → Formed (pos (k * 5 * 10 ^ (70 - d))) r → IsSome r
-  grain_some (Some x) f = refl
-  grain_some None f = absurd (lt_irrefl highest (lt_of_lt_of_le f (subst (λ (z : ℤ). nat_abs z ≤ highest) (sym grain_is) (bound_of d (grain (meaning d) k) ((rules p).grain_is_number k few)))))
+  pub grain_small : nat_abs (with_zeros (to_z w64 (of_z w64 (to_z w64 k *ℤ pos 5))) (70 - p.digits)) ≤ highest
+  grain_small = rw (← grain_is) (bound_of d (grain (meaning d) k) ((rules p).grain_is_number k few))
 
-  pub grain_answer : (z : ℤ) → z ≡ pos (k * 5 * 10 ^ (70 - d)) → z ≡ grain (meaning d) k
-  grain_answer z e = e ∙ grain_is
+  grain_number : Number (meaning p.digits) (grain (meaning p.digits) k)
+  grain_number = (rules p).grain_is_number k few
 
-  pub grain_number : (z : ℤ) → z ≡ pos (k * 5 * 10 ^ (70 - d)) → Number (meaning d) z
-  grain_number z e = rw (grain_answer z e) ((rules p).grain_is_number k few)
+  pub grain_unchanged : with_zeros (to_z w64 (of_z w64 (to_z w64 k *ℤ pos 5))) (70 - p.digits) ≡ (meaning p.digits).rounding (with_zeros (to_z w64 (of_z w64 (to_z w64 k *ℤ pos 5))) (70 - p.digits)) (meaning p.digits).Q
+  grain_unchanged = rw (← grain_is) (sym grain_number.unchanged)
+
+  pub grain_bounded : nat_abs (with_zeros (to_z w64 (of_z w64 (to_z w64 k *ℤ pos 5))) (70 - p.digits)) ≤ (meaning p.digits).high
+  grain_bounded = rw (← grain_is) grain_number.bounded

@@ -1,10 +1,10 @@
-mod Filtered
 mod TableRules
 mod Tens
 mod Limits
 mod Casts
 mod Values
 mod OneForm
+mod FormResults
 mod Counted
 mod Shifted
 mod ErrorPart

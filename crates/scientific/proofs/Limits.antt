@@ -1,11 +1,12 @@
 -- The one form with eight digits, and the limits 10^30 and 10^110 against it. A significand is below 10^8, and from 10^7 on where
 -- zeros stand behind it; so the zeros alone decide, but for 10^7 with 103 zeros, which is 10^110 itself. The limits are unfolded
 -- here and nowhere else, and only compared with numerals.
-use Rattle.std.proofs.Common.{◌≡◌, ℕ, suc, ◌*◌, ◌^◌, ◌<◌, ◌≤◌, Bool, true, false, ◌&&◌, ◌||◌, T, eqb, ltb, leb, ◌⊎◌, sym, refl, ap, ◌∙◌, subst, inl, inr, ⊎_elim, le_trans, lt_of_lt_of_le, le_of_lt, mul-le-mul_right, mul-le-mul, mul-le-mul_left, arith, lit<, lit≤, eqb→eq, ltb→lt, leb→le}
+use Rattle.std.proofs.Common.{◌≡◌, ℕ, suc, ◌*◌, ◌^◌, ◌<◌, ◌≤◌, Bool, true, false, ◌&&◌, ◌||◌, T, eqb, ltb, leb, ◌⊎◌, ℤ, nat_abs, sym, refl, ap, ◌∙◌, subst, inl, inr, ⊎_elim, le_trans, lt_of_lt_of_le, le_of_lt, mul-le-mul_right, mul-le-mul, mul-le-mul_left, arith, lit<, lit≤, eqb→eq, ltb→lt, leb→le}
 use native.Mathlib.Decide.{dec_le}
 use Rattle.integers.proofs.Tests.{both, either, leb_yes, ltb_yes}
 use Rattle.scientific.proofs.Tens.{tens}
-use Rattle.scientific.specs.Forms.{size_of, is_full, is_small, lowest, highest}
+use Rattle.scientific.proofs.Values.{size_with}
+use Rattle.scientific.specs.Forms.{size_of, with_zeros, is_full, is_small, lowest, highest}
 
 -- ---- the one form
 pub full_is : (s z : ℕ) → is_full s z ≡ true → (s < 10 ^ 8) × ((z ≡ 0) ⊎ (10 ^ 7 ≤ s))
@@ -38,18 +39,18 @@ unfolding highest
 at_highest s h = le_trans (mul-le-mul_right (10 ^ 103) h) (lit≤ tt)
 
 -- at most 103 zeros, and at 103 no significand above 10^7
-pub up_to_highest : (s z : ℕ) → s < 10 ^ 8 → z ≤ 103 → (z ≡ 103 → s ≤ 10 ^ 7) → size_of s z ≤ highest
+up_to_highest : (s z : ℕ) → s < 10 ^ 8 → z ≤ 103 → (z ≡ 103 → s ≤ 10 ^ 7) → size_of s z ≤ highest
 up_to_highest s z h l t = go (dec_le (suc z) 103)
   where
     go : Dec (suc z ≤ 103) → size_of s z ≤ highest
     go (yes k) = under_highest s z h k
     go (no k) = let e : z ≡ 103 = omega arith in subst (λ (x : ℕ). size_of s x ≤ highest) (sym e) (at_highest s (t e))
 
-pub over_highest : (s z : ℕ) → 10 ^ 7 ≤ s → 103 < z → highest < size_of s z
+over_highest : (s z : ℕ) → 10 ^ 7 ≤ s → 103 < z → highest < size_of s z
 unfolding highest
 over_highest s z h l = lt_of_lt_of_le (lit< tt) (mul-le-mul h (tens 104 z l))
 
-pub past_highest : (s : ℕ) → 10 ^ 7 < s → highest < size_of s 103
+past_highest : (s : ℕ) → 10 ^ 7 < s → highest < size_of s 103
 unfolding highest
 past_highest s h = lt_of_lt_of_le (lit< tt) (mul-le-mul h (tens 103 103 (lit≤ tt)))
 
@@ -64,3 +65,16 @@ below_lowest s z h l = lt_of_lt_of_le (less (10 ^ z) (tens 0 z (omega arith))) (
   where
     less : (x : ℕ) → 1 ≤ x → s * x < 10 ^ 8 * x
     less x p = omega (arith, mul-le-mul_right x h)
+
+-- ---- by the zeros, as code tells
+pub over_by_zeros : (s : ℤ) (z : ℕ) → is_full (nat_abs s) z ≡ true → 103 < z → highest < nat_abs (with_zeros s z)
+over_by_zeros s z f h = rw (size_with s z) (over_highest (nat_abs s) z (⊎_elim (λ e. absurd (omega arith)) (λ l. l) (full_is (nat_abs s) z f).1) h)
+
+pub over_by_size : (s : ℤ) (z : ℕ) → z ≡ 103 → 10000000 < nat_abs s → highest < nat_abs (with_zeros s z)
+over_by_size s z e h = rw (size_with s z, e) (past_highest (nat_abs s) h)
+
+pub small_by_zeros : (s z : ℕ) → is_full s z ≡ true → z < 103 → is_small s z ≡ true
+small_by_zeros s z f h = small_in s z (up_to_highest s z (full_is s z f).0 (omega arith) (λ e. absurd (omega arith)))
+
+pub small_by_size : (s z : ℕ) → is_full s z ≡ true → z ≤ 103 → s ≤ 10000000 → is_small s z ≡ true
+small_by_size s z f h l = small_in s z (up_to_highest s z (full_is s z f).0 h (λ e. l))

@@ -88,7 +88,7 @@ module _ (d : ℕ) (P : 1 ≤ d) where
   unfolding meaning
   low_is = refl
 
-  bounded_units : (x : Scientific) → nat_abs (units x) ≤ (meaning d).high
+  pub bounded_units : (x : Scientific) → nat_abs (units x) ≤ (meaning d).high
   bounded_units x = rw high_is (bounded x)
 
   gives_digits : (z : ℤ) (D : ℕ) → 0 < D → Digits 10 d (nat_abs ((meaning d).rounding z D))
@@ -128,8 +128,11 @@ module _ (d : ℕ) (P : 1 ≤ d) where
       whole v z = ring (at v ⊕ (at z ⊕ (⊖ at v))) (at z) (omega arith)
   sum_split_answer a b None f = sum_split_not (meaning d) a b (sum_answer a b None (subst (λ (z : ℤ). highest < nat_abs z) (sym (sum_rounding (a +ℤ b))) f))
 
+  pub split_numbers : (z : ℤ) → Digits 10 d (nat_abs (error d z)) → (q : Scientific × Scientific) → SplitFormed d z (Some q) → Number (meaning d) (units q.0) × Number (meaning d) (units q.1)
+  split_numbers z h q f = (number_from q.0 z (meaning d).Q scale (f.0 ∙ sym (sum_rounding z)), number_of d (units q.1) P (subst (λ (y : ℤ). Digits 10 d (nat_abs y)) (sym f.1) h) (bounded q.1))
+
   pub sum_split_numbers : (a b : ℤ) (r : Option (Scientific × Scientific)) → Number (meaning d) a → Number (meaning d) b → SplitFormed d (a +ℤ b) r → GivesBoth (meaning d) units r
-  sum_split_numbers a b (Some p) na nb f = (number_from p.0 (a +ℤ b) (meaning d).Q scale (f.0 ∙ sym (sum_rounding (a +ℤ b))), number_of d (units p.1) P (subst (λ (z : ℤ). Digits 10 d (nat_abs z)) (sym f.1) (sum_part a b na nb)) (bounded p.1))
+  sum_split_numbers a b (Some p) na nb f = split_numbers (a +ℤ b) (sum_part a b na nb) p f
   sum_split_numbers a b None na nb f = tt
 
   -- ---- products and lifts: accepted from the lower limit on, refused below it and above the upper one
@@ -144,7 +147,7 @@ module _ (d : ℕ) (P : 1 ≤ d) where
       none : (x y : ℕ) → pos (0 * x) ≡ pos (0 * y)
       none x y = ap pos (omega arith)
 
-  product_rounding : (a b z : ℤ) → a *ℤ b ≡ z *ℤ pos (10 ^ 70) → (meaning d).rounding (a *ℤ b) ((meaning d).Q * (meaning d).Q) ≡ rounded_to d z
+  pub product_rounding : (a b z : ℤ) → a *ℤ b ≡ z *ℤ pos (10 ^ 70) → (meaning d).rounding (a *ℤ b) ((meaning d).Q * (meaning d).Q) ≡ rounded_to d z
   unfolding meaning
   product_rounding a b z e = product_is_whole d 70 P (lit≤ tt) (a *ℤ b) z e
 
@@ -173,23 +176,13 @@ module _ (d : ℕ) (P : 1 ≤ d) where
       none : (x : ℕ) → pos (0 * x) ≡ pos 0
       none x = ap pos (omega arith)
 
-  -- the product is z units, and p its split
-  module _ (a b z : ℤ) (exact : a *ℤ b ≡ z *ℤ pos (10 ^ 70)) (p : Scientific × Scientific) (f : SplitFormed d z (Some p)) where
-    pub product_rounds_to : units p.0 ≡ (meaning d).rounding (a *ℤ b) ((meaning d).Q * (meaning d).Q)
-    product_rounds_to = f.0 ∙ sym (product_rounding a b z exact)
-
-    pub product_within : lowest ≤ nat_abs (units p.0) → some (record { main = units p.0; error = units p.1 }) ≡ product_split (meaning d) a b
-    product_within l = product_split_yes a b (units p.0) (units p.1) (product_is (meaning d) a b (units p.0) (sym product_rounds_to) (rw low_is l) (bounded_units p.0))
-        (rw scale_is (ap (λ (x : ℤ). x *ℤ pos (10 ^ 70)) (ap (λ (x : ℤ). x +ℤ units p.1) f.0 ∙ ap (λ (x : ℤ). rounded_to d z +ℤ x) f.1 ∙ whole (rounded_to d z)) ∙ sym exact))
-      where
-        whole : (v : ℤ) → v +ℤ (z -ℤ v) ≡ z
-        whole v = ring (at v ⊕ (at z ⊕ (⊖ at v))) (at z) (omega arith)
-
-    pub product_numbers : Digits 10 d (nat_abs (error d z)) → Number (meaning d) (units p.0) × Number (meaning d) (units p.1)
-    product_numbers h = (number_from p.0 (a *ℤ b) ((meaning d).Q * (meaning d).Q) (mul-pos scale scale) product_rounds_to, number_of d (units p.1) P (subst (λ (z : ℤ). Digits 10 d (nat_abs z)) (sym f.1) h) (bounded p.1))
-
-  pub product_above : (a b z : ℤ) → a *ℤ b ≡ z *ℤ pos (10 ^ 70) → (nat_abs (a *ℤ b) ≡ 0 → ⊥) → highest < nat_abs (rounded_to d z) → none ≡ product (meaning d) a b
-  product_above a b z e h o = product_no a b (rounded_to d z) (product_rounding a b z e) h (inr o)
+  -- the product is z units, and q its split
+  pub product_within : (a b z : ℤ) → a *ℤ b ≡ z *ℤ pos (10 ^ 70) → (q : Scientific × Scientific) → SplitFormed d z (Some q) → lowest ≤ nat_abs (units q.0) → some (record { main = units q.0; error = units q.1 }) ≡ product_split (meaning d) a b
+  product_within a b z exact q f l = product_split_yes a b (units q.0) (units q.1) (product_is (meaning d) a b (units q.0) (product_rounding a b z exact ∙ sym f.0) (rw low_is l) (bounded_units q.0))
+      (rw scale_is (ap (λ (x : ℤ). x *ℤ pos (10 ^ 70)) (ap (λ (x : ℤ). x +ℤ units q.1) f.0 ∙ ap (λ (x : ℤ). rounded_to d z +ℤ x) f.1 ∙ whole (rounded_to d z)) ∙ sym exact))
+    where
+      whole : (v : ℤ) → v +ℤ (z -ℤ v) ≡ z
+      whole v = ring (at v ⊕ (at z ⊕ (⊖ at v))) (at z) (omega arith)
 
   -- ---- lifts
   abbrev unit : ℕ
@@ -210,9 +203,6 @@ module _ (d : ℕ) (P : 1 ≤ d) where
 
     pub lift_yes : (x : Scientific) → units x ≡ lifted → lowest ≤ nat_abs (units x) → some (units x) ≡ lift (meaning d) a g
     lift_yes x f l = lift_is (meaning d) a g (units x) (sym f) (rw low_is l) (bounded_units x)
-
-    pub lift_number : (x : Scientific) → units x ≡ lifted → Number (meaning d) (units x)
-    lift_number x f = number_from x (a *ℤ pos (meaning d).U) ((meaning d).Q * ((meaning d).U - g)) (left_over g h) f
 
     pub lift_no : (z : ℤ) → lifted ≡ z → (nat_abs a ≡ 0 → ⊥) → (nat_abs z < lowest) ⊎ (highest < nat_abs z) → none ≡ lift (meaning d) a g
     lift_no z e k o = lift_not (meaning d) a g z e k (out z o)

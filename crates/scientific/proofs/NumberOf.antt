@@ -1,5 +1,5 @@
 -- The numbers of an arithmetic of d digits: a size m · 10^e with m below 10^d, at most 10^40.
-use Rattle.std.proofs.Common.{ℕ, ◌^◌, ◌≤◌, ℤ, nat_abs, lit≤}
+use Rattle.std.proofs.Common.{ℕ, ◌^◌, ◌<◌, ◌≤◌, ℤ, nat_abs, sym, mul-one, lit≤}
 use Rattle.rounding.specs.Digits.{Digits}
 use Rattle.rounding.specs.Laws.{Laws}
 use Rattle.rounding.proofs.Laws.{laws}
@@ -9,6 +9,10 @@ use Rattle.scientific.specs.Patterns.{meaning}
 
 pub law : (d : ℕ) → 1 ≤ d → Laws 10 d (10 ^ 70)
 law d h = laws 10 d (10 ^ 70) (lit≤ tt) h (lit≤ tt)
+
+-- at most eight digits
+pub eight_digits : (x : ℕ) → x < 100000000 → Digits 10 8 x
+eight_digits x h = record { m = x; e = 0; is = sym (mul-one x); few = h }
 
 pub bound_of : (d : ℕ) (z : ℤ) → Number (meaning d) z → nat_abs z ≤ highest
 unfolding meaning

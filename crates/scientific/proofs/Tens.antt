@@ -1,5 +1,5 @@
 -- Powers of ten.
-use Rattle.std.proofs.Common.{◌≡◌, ℕ, suc, ◌+◌, ◌*◌, ◌^◌, ◌<◌, ◌≤◌, sym, ap, ◌∙◌, lt_of_lt_of_le, lt_irrefl, mul_assoc, arith, lit<, lit≤, pow-add}
+use Rattle.std.proofs.Common.{◌≡◌, ℕ, suc, ◌+◌, ◌-◌, ◌*◌, ◌^◌, ◌<◌, ◌≤◌, sym, ap, ◌∙◌, lt_of_lt_of_le, lt_irrefl, mul_assoc, arith, lit<, lit≤, pow-add}
 use native.Mathlib.Nat.{pow-le-pow_right}
 use native.Mathlib.Decide.{dec_le}
 use Rattle.integers.proofs.Naturals.{some_power}
@@ -29,3 +29,13 @@ joined i j k e = sym (pow-add 10 i j) ∙ ap (λ (x : ℕ). 10 ^ x) e
 -- s · 10^x with z more zeros, where x and z make zeros
 pub moved : (n x z zeros : ℕ) → x + z ≡ zeros → size_of (n * 10 ^ x) z ≡ size_of n zeros
 moved n x z zeros e = mul_assoc n (10 ^ x) (10 ^ z) ∙ ap (λ (y : ℕ). n * y) (joined x z zeros e)
+
+-- with four to eight digits
+pub at_least_1000 : (d : ℕ) → 4 ≤ d → 1000 ≤ 10 ^ (d - 1)
+at_least_1000 d h = tens 3 (d - 1) (omega arith)
+
+pub at_most_10000000 : (d : ℕ) → d ≤ 8 → 10 ^ (d - 1) ≤ 10000000
+at_most_10000000 d h = tens (d - 1) 7 (omega arith)
+
+pub at_most_eight : (d : ℕ) → d ≤ 8 → 10 ^ d ≤ 100000000
+at_most_eight d h = tens d 8 h

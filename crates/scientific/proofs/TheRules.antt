@@ -1,5 +1,5 @@
 -- The rules of decimal: those of d digits in radix 10, with what its patterns are admitted as.
-use Rattle.std.proofs.Common.{◌≡◌, ℕ, ◌*◌, ◌^◌, pos, refl, arith}
+use Rattle.std.proofs.Common.{◌≡◌, ℕ, ◌^◌, pos, refl, arith}
 use Rattle.arithmetic.specs.Rules.{Rules}
 use Rattle.arithmetic.proofs.RadixRules.{radix_rules}
 use Rattle.scientific.specs.Forms.{lowest, highest}
@@ -12,6 +12,6 @@ pub rules : (p : Precision) → Rules (meaning p.digits)
 unfolding meaning
 rules p = let d = p.digits in radix_rules 10 d 70 lowest highest (admitted d) (pattern d) (lawful d p.least p.most) (λ bytes a e. admitted_number d bytes a (omega arith) p.most e) (λ a n. pattern_admitted d a (omega arith) p.most n) (pattern_eight d)
 
-pub one_is : (d : ℕ) → pos (10000000 * 10 ^ 63) ≡ pos (meaning d).Q
+pub one_is : (d : ℕ) → pos (10 ^ 70) ≡ pos (meaning d).Q
 unfolding meaning
 one_is d = refl

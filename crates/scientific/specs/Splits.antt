@@ -1,7 +1,7 @@
 -- A rounded result and its error part as numbers.
-use Rattle.std.specs.Prelude.{◌≡◌, ℕ, ◌<◌, ℤ, ◌-ℤ◌, Some, None, Option, unsigned_abs}
+use Rattle.std.specs.Prelude.{◌≡◌, ℕ, ◌<◌, ◌≤◌, ◌⊎◌, ℤ, ◌-ℤ◌, Some, None, Option, unsigned_abs}
 use Rattle.rounding.specs.Radix.{rounding}
-use Rattle.scientific.specs.Forms.{highest}
+use Rattle.scientific.specs.Forms.{lowest, highest}
 use Rattle.scientific.specs.Numbers.{units}
 use Rattle.scientific.specs.declared.number.Scientific.{Scientific}
 
@@ -17,3 +17,8 @@ error d z = z -ℤ rounded_to d z
 abbrev pub SplitFormed : ℕ → ℤ → Option (Scientific × Scientific) → Type 0
 SplitFormed d z (Some p) = (units p.0 ≡ rounded_to d z) × (units p.1 ≡ error d z)
 SplitFormed d z None = highest < unsigned_abs (rounded_to d z)
+
+-- the same within both limits; none exactly where the rounded ones are outside them
+abbrev pub SplitInLimits : ℕ → ℤ → Option (Scientific × Scientific) → Type 0
+SplitInLimits d z (Some p) = (units p.0 ≡ rounded_to d z) × (units p.1 ≡ error d z) × (lowest ≤ unsigned_abs (rounded_to d z))
+SplitInLimits d z None = (unsigned_abs (rounded_to d z) < lowest) ⊎ (highest < unsigned_abs (rounded_to d z))

@@ -39,6 +39,7 @@ fn in_form(size: u32, zeros: u8, p: Precision) -> bool
 
 // The number that M and e stand for, or the cause of their refusal.
 #[inline(always)]
+#[tactic(auto, using(crate::proofs::NumberOf::eight_digits, crate::proofs::Admissions::out_of_range, crate::proofs::Admissions::form_eight, crate::proofs::Admissions::other_form, crate::proofs::Admissions::made, crate::proofs::Admissions::made_number))]
 pub fn checked(m: i32, e: i16, p: Precision) -> Result<Scientific, Cause>
     ensures answer { admission units result ≡ admission_of p.digits m e }
     ensures number { Admits (meaning p.digits) units result }
@@ -51,6 +52,7 @@ pub fn checked(m: i32, e: i16, p: Precision) -> Result<Scientific, Cause>
 }
 
 // The number that M and e stand for; 0 where they stand for none.
+#[tactic(auto, unfolding(crate::specs::Patterns::reads))]
 pub fn read(w: Written, p: Precision) -> Scientific
     ensures answer { units result ≡ reads p.digits w }
     ensures number { Number (meaning p.digits) (units result) }
@@ -59,6 +61,7 @@ pub fn read(w: Written, p: Precision) -> Scientific
 }
 
 // The number that eight bytes are admitted as, or the cause of their refusal.
+#[tactic(auto, using(crate::proofs::BytePatterns::sixth_other, crate::proofs::BytePatterns::seventh_other, crate::proofs::BytePatterns::admit_parts))]
 pub fn admit(bytes: &[u8; 8], p: Precision) -> Result<Scientific, Cause>
     ensures answer { admission units result ≡ (meaning p.digits).admit bytes.now }
     ensures number { Admits (meaning p.digits) units result }
@@ -99,6 +102,7 @@ pub fn plain(a: Scientific, p: Precision) -> Written
 }
 
 // The eight bytes of a number.
+#[tactic(auto, using(crate::proofs::BytePatterns::pattern_parts))]
 pub fn pattern(a: Scientific, p: Precision) -> [u8; 8]
     requires { Number (meaning p.digits) (units a) }
     ensures { result ≡ (meaning p.digits).pattern (units a) }

@@ -11,6 +11,7 @@ use crate::forms::{exact_form, not_below};
 use crate::number::{LEAST_SIGNIFICAND, Scientific, ZEROS_OF_ONE};
 use crate::precision::Precision;
 
+#[tactic(auto, using(crate::proofs::ExactNumbers::zero_number))]
 pub fn zero() -> Scientific
     ensures answer { units result ≡ pos 0 }
     ensures number { (p : Precision) → Number (meaning p.digits) (units result) }
@@ -22,6 +23,7 @@ pub fn zero() -> Scientific
 }
 
 // 10^7 with seven zeros fewer than those of one.
+#[tactic(auto, using(crate::proofs::ExactNumbers::one_small, crate::proofs::TheRules::one_is))]
 pub fn one() -> Scientific
     ensures answer { (d : ℕ) → units result ≡ pos (meaning d).Q }
     ensures number { (p : Precision) → Number (meaning p.digits) (units result) }
@@ -33,6 +35,7 @@ pub fn one() -> Scientific
 }
 
 // The absolute value.
+#[tactic(auto, using(crate::proofs::ExactNumbers::sign_number))]
 pub fn size(a: Scientific) -> Scientific
     ensures answer { units result ≡ size_of (units a) }
     ensures number { (p : Precision) → Number (meaning p.digits) (units a) → Number (meaning p.digits) (units result) }
@@ -43,6 +46,7 @@ pub fn size(a: Scientific) -> Scientific
     }
 }
 
+#[tactic(auto, using(crate::proofs::ExactNumbers::negative_number))]
 pub fn negative(a: Scientific) -> Scientific
     ensures answer { units result ≡ neg_ℤ (units a) }
     ensures number { (p : Precision) → Number (meaning p.digits) (units a) → Number (meaning p.digits) (units result) }
@@ -62,6 +66,7 @@ fn rank(a: Scientific) -> i64
 }
 
 // Whether a is at most b.
+#[tactic(auto, using(crate::proofs::ExactNumbers::order_by_rank))]
 pub fn at_most(a: Scientific, b: Scientific) -> bool
     ensures { result ≡ int_le (units a) (units b) }
 {
@@ -69,6 +74,7 @@ pub fn at_most(a: Scientific, b: Scientific) -> bool
 }
 
 // Whether a is zero, or from 10^-40 to 10^40 in size: no number is above that.
+#[tactic(auto, using(crate::proofs::ExactNumbers::limits_by_lowest))]
 pub fn is_in_limits(a: Scientific) -> bool
     ensures { (d : ℕ) → result ≡ in_limits (meaning d) (units a) }
 {
@@ -76,6 +82,7 @@ pub fn is_in_limits(a: Scientific) -> bool
 }
 
 // The grain k u, which is exact: with d digits 5 k × 10^-d, so 5 k with 70 - d zeros behind it.
+#[tactic(auto, using(crate::proofs::NumberOf::eight_digits, crate::proofs::GrainNumbers::grain_is, crate::proofs::GrainNumbers::grain_small, crate::proofs::GrainNumbers::grain_unchanged, crate::proofs::GrainNumbers::grain_bounded))]
 pub fn grain(k: u8, p: Precision) -> Scientific
     requires { k ≤ 192 }
     ensures answer { units result ≡ grain_of (meaning p.digits) k }

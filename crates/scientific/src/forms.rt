@@ -15,6 +15,7 @@ const LEAST_ZEROS: u8 = 23;
 
 // At most eight digits, followed by zeros within n or behind it, as a number; none above 10^40.
 #[inline(always)]
+#[tactic(auto, using(crate::proofs::FormResults::taken_fits, crate::proofs::FormResults::taken_narrow))]
 pub fn exact_form(n: i64, zeros: u32) -> Option<Scientific>
     requires short { Digits 10 8 (unsigned_abs n) }
     requires few { zeros ≤ 600 }
@@ -26,6 +27,7 @@ pub fn exact_form(n: i64, zeros: u32) -> Option<Scientific>
     let count = digits(n.unsigned_abs());
     if count > 8 {
         let excess = count - 8;
+        #[tactic(auto, using(crate::proofs::Casts::power_fits, crate::proofs::Tens::some_ten, crate::proofs::FormResults::cut_fits, crate::proofs::FormResults::cut_narrow, crate::proofs::FormResults::cut_full, crate::proofs::FormResults::cut_same))]
         return not_above((n / power(excess) as i64) as i32, zeros + excess);
     }
     let room = zeros.min(8 - count);
@@ -47,6 +49,7 @@ pub fn formed(n: i64, zeros: u32) -> Option<Scientific>
 }
 
 // A significand and zeros in the one form, as a number; none above 10^40.
+#[tactic(auto, using(crate::proofs::Limits::over_by_zeros, crate::proofs::Limits::over_by_size, crate::proofs::Limits::small_by_zeros, crate::proofs::Limits::small_by_size))]
 fn not_above(significand: i32, zeros: u32) -> Option<Scientific>
     requires { is_full (unsigned_abs significand) zeros ≡ true }
     ensures { Formed (with_zeros significand zeros) result }
@@ -63,6 +66,7 @@ fn not_above(significand: i32, zeros: u32) -> Option<Scientific>
 }
 
 // Is the number at least 10^-40 in size?
+#[tactic(auto, using(crate::proofs::ExactNumbers::lowest_by_zeros))]
 pub fn not_below(x: Scientific) -> bool
     ensures { result ≡ nat_le lowest (unsigned_abs (units x)) }
 {

@@ -18,6 +18,7 @@ mod tables;
 pub mod written;
 
 // Where another number of d digits is as near to a fraction as its rounding, the rounding is written with an even M.
+#[tactic(auto, using(crate::proofs::EvenTies::ties_to_even_M))]
 pub fn ties_to_even()
     ensures { TiesToEvenM }
 {}

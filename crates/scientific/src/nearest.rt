@@ -14,6 +14,7 @@ pub(crate) struct Rounded {
 }
 
 // n / divisor rounded to as many digits as p has. There are as many zeros as its whole part has digits past those.
+#[tactic(auto, using(crate::proofs::Tens::some_ten, crate::proofs::Tens::at_most_eight, crate::proofs::Counted::fits_64, crate::proofs::Counted::zeros_15, crate::proofs::Counted::short_size, crate::proofs::Counted::with_zeros_is, crate::proofs::Counted::rounding_plus, crate::proofs::Counted::rounding_minus, crate::proofs::Counted::minus_with))]
 pub fn round_fraction(n: i64, divisor: u64, p: Precision) -> Rounded
     requires some { 0 < divisor }
     requires small { unsigned_abs n < 2 ^ 62 }
@@ -33,6 +34,7 @@ pub fn round_fraction(n: i64, divisor: u64, p: Precision) -> Rounded
 
 // n / divisor without as many digits as there are zeros; by a product where nothing else is divided by.
 #[inline(always)]
+#[tactic(auto, using(crate::proofs::Tens::some_ten))]
 fn quotient_of(n: u64, divisor: u64, zeros: u32) -> u64
     requires some { 0 < divisor }
     requires small { n < 2 ^ 62 }
@@ -49,6 +51,7 @@ fn quotient_of(n: u64, divisor: u64, zeros: u32) -> u64
 
 // The whole number nearest to n / divisor, whose quotient is given; the even one of two at a tie.
 #[inline(always)]
+#[tactic(auto, using(crate::proofs::Counted::nearest_by_rest))]
 fn nearest(n: u64, divisor: u64, quotient: u64) -> u64
     requires some { 0 < divisor }
     requires quotient { quotient ≡ n / divisor }

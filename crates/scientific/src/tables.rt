@@ -55,6 +55,7 @@ const SHIFTS: [u8; 16] = [0, 4, 7, 10, 14, 17, 20, 24, 27, 30, 34, 37, 40, 44, 4
 
 // n / 10^k, by a product and shifts.
 #[inline(always)]
+#[tactic(auto, using(crate::proofs::TableRules::divided_at))]
 pub fn divided(n: u64, k: u32) -> u64
     requires small { n < 2 ^ 62 }
     requires few { k ≤ 15 }
@@ -65,6 +66,7 @@ pub fn divided(n: u64, k: u32) -> u64
 }
 
 // 10^k.
+#[tactic(auto, using(crate::proofs::TableRules::power_at))]
 pub fn power(k: u32) -> u64
     requires { k ≤ 19 }
     ensures { result ≡ 10 ^ k }
@@ -72,17 +74,19 @@ pub fn power(k: u32) -> u64
     POWERS[k as usize]
 }
 
-// How many digits a number of so many bits has at least.
+// How many digits a number of so many bits has at least: those of 2^(bits - 1), and 0 for no bits. Both clauses hold of that count alone.
+#[tactic(auto, using(crate::proofs::TableRules::least_reached, crate::proofs::TableRules::least_past))]
 fn least_digits(bits: u32) -> u32
     requires { bits ≤ 64 }
     ensures reached { 10 ^ result ≤ 5 * 2 ^ bits }
-    ensures past { 2 ^ bits ≤ 10 ^ suc result }
+    ensures past { 2 ^ bits < 2 * 10 ^ result }
     ensures few { result ≤ 19 }
 {
     LEAST_DIGITS[bits as usize] as u32
 }
 
 // How many digits n has: none for 0.
+#[tactic(auto, using(crate::proofs::TableRules::under_next, crate::proofs::TableRules::from_last))]
 pub fn digits(n: u64) -> u32
     ensures under { n < 10 ^ result }
     ensures least { (k : ℕ) → result ≡ suc k → 10 ^ k ≤ n }

@@ -10,8 +10,8 @@ use Rattle.scientific.specs.Numbers.{units, Formed}
 use Rattle.scientific.specs.Splits.{SplitFormed, rounded_to, error}
 use Rattle.scientific.proofs.Casts.{in_digits, wide, in_64, power_is, power_fits}
 use Rattle.std.specs.Option.{unwrap_or}
-use Rattle.scientific.proofs.Limits.{small_is}
-use Rattle.scientific.proofs.Values.{size_with, with_more}
+use Rattle.scientific.proofs.Values.{with_more}
+use Rattle.scientific.proofs.Meanings.{bounded}
 use Rattle.scientific.proofs.ErrorPart.{short_digits, more_digits, error_at_most_own, rounded_at_most_double, rounded_with, error_with, error_digits, error_above}
 use Rattle.scientific.proofs.rounded.split_form.Goals as goal
 
@@ -65,9 +65,6 @@ or_formed : (z : ℤ) (r : Option Scientific) (x y : Scientific) → Formed z r 
 or_formed z (Some s) x y h f e = rw e h
 or_formed z None x y h f e = absurd (f h)
 
-number_within : (x : Scientific) → nat_abs (units x) ≤ highest
-number_within x = rw (size_with x.significand x.zeros) (small_is (nat_abs x.significand) x.zeros x.small)
-
 refused : (d : ℕ) (z : ℤ) (r : Option (Scientific × Scientific)) → r ≡ None → highest < nat_abs (rounded_to d z) → SplitFormed d z r
 refused d z r e h = subst (SplitFormed d z) (sym e) h
 
@@ -103,5 +100,5 @@ returns c =
     let d = c.args.p.digits in
     let h = rw (held c.args.p c.args.n r.result c.requires.small r.ensures.value r.ensures.short c.power.result c.power.ensures r.ensures.few) at c.exact_form.ensures in
     -- the error part is not above the limit, since the rounded one is a number
-    let m : nat_abs (rounded_to d (with_zeros c.args.n k)) ≤ highest = subst (λ (z : ℤ). nat_abs z ≤ highest) (c.in_ok-main.ensures ∙ main c.args.p c.args.n r.result c.requires.small r.ensures.value r.ensures.short k) (number_within c.in_ok-main.main) in
+    let m : nat_abs (rounded_to d (with_zeros c.args.n k)) ≤ highest = subst (λ (z : ℤ). nat_abs z ≤ highest) (c.in_ok-main.ensures ∙ main c.args.p c.args.n r.result c.requires.small r.ensures.value r.ensures.short k) (bounded c.in_ok-main.main) in
     (c.in_ok-main.ensures ∙ main c.args.p c.args.n r.result c.requires.small r.ensures.value r.ensures.short k, or_formed (with_zeros (error d c.args.n) k) _ _ _ h (λ a. let b = error_above d c.args.n (omega arith) k highest a in lt_irrefl highest (lt_of_lt_of_le b m)) c.unwrap_or-error.ensures ∙ error_with d c.args.n (omega arith) k)
