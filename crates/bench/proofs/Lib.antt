@@ -1,3 +1,5 @@
-pub mod Steps
-pub mod Exits
+pub mod Law
+pub mod Adding
+pub mod Issuing
+pub mod Cells
 pub mod Making

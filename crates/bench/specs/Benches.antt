@@ -19,11 +19,15 @@ making_of st b = record { meaning = st.meaning; bench_number = b.number; K = len
 abbrev pub state_of : {A N P : Type 0} {g : _} → Setting P → Bench A N P g → State
 state_of st b = record { row = readings st b.row.now; held = b.held; out = b.out }
 
+-- the law at a call, as one fact
+unfoldable pub LawAt : Making → State → Call → Answer → Type 0
+LawAt b s call answer = CallLaw b s call answer
+
 -- a call was answered as defined, the state after it is the one defined, and the law holds at this call
 pub record Called (b : Making) (s s' : State) (call : Call) (answer : Answer) : Type 0 where
   pub answered : answer ≡ (step b s call).answer
   pub then : s' ≡ (step b s call).then
-  pub law : CallLaw b s call answer
+  pub law : LawAt b s call answer
 
 -- the same of a bench before and after a call
 abbrev pub AnswersCall : {A N P : Type 0} {g : _} → Setting P → Bench A N P g → Bench A N P g → Call → Answer → Type 0

@@ -1,4 +1,4 @@
--- Each refusal has its number and its details here, once.
+-- The number and the details of each refusal of the code, and how it is shown.
 use Rattle.std.specs.Prelude.{ℕ, List, [], ◌∷◌, ◌++◌, flat_map, Option, None, Some, codes, decimal}
 use Rattle.arithmetic.specs.Causes.{cause_number}
 use Rattle.row.specs.Operations.{operation_number}

@@ -40,7 +40,8 @@ impl<'r, A: Arithmetic> Bench<'r, A> {
     }
 
     // The value and the error bound of an order that is in the row, or the operation that left its range.
-    #[tactic(auto, using(crate::proofs::Steps::closed_in_row))]
+    #[inline(always)]
+    #[tactic(auto, using(crate::proofs::Cells::closed_in_row))]
     pub(crate) fn close_order(
         &self,
         arith: &mut A,
@@ -57,6 +58,8 @@ impl<'r, A: Arithmetic> Bench<'r, A> {
     }
 
     // The value and the error bound of the coefficient of order k. Refusals: 6, 7, 8.
+    #[inline(always)]
+    #[tactic(auto, using(crate::proofs::Law::law_at), unfolding(coefficients::specs::Calls::step))]
     pub fn ask(&self, arith: &mut A, k: u8) -> Result<(A::Number, A::Number), Refusal>
         requires law { A.lawful arith.old }
         ensures called { AnswersCall (A.setting arith.old) self.now self.now (ask_call k) (told_asked A.value result) }

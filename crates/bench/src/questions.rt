@@ -23,6 +23,7 @@ impl<'r, A: Arithmetic> Bench<'r, A> {
     }
 
     // Issues a question of order k. Refusals: 6, 7, 9.
+    #[tactic(auto, using(crate::proofs::Law::law_at, crate::proofs::Issuing::issue_step))]
     pub fn issue(&mut self, arith: &A, k: u8) -> Result<Question, Refusal>
         requires law { A.lawful arith.now }
         ensures called { AnswersCall (A.setting arith.now) self.old self.new (issue_call k) (told_issued result) }
@@ -71,6 +72,7 @@ impl<'r, A: Arithmetic> Bench<'r, A> {
     }
 
     // The verdict on a claim; the claim and the tolerance are given by their eight bytes.
+    #[tactic(auto, using(crate::proofs::Law::law_at), unfolding(coefficients::specs::Calls::step))]
     fn judge_claim(
         &self,
         arith: &mut A,
@@ -117,6 +119,7 @@ impl<'r, A: Arithmetic> Bench<'r, A> {
     }
 
     // Withdraws a question. Refusal: 10, which gives the question back.
+    #[tactic(auto, using(crate::proofs::Law::law_at), unfolding(coefficients::specs::Calls::step))]
     pub fn withdraw(&mut self, arith: &A, question: Question) -> Result<(), GivenBack>
         requires law { A.lawful arith.now }
         ensures called { AnswersCall (A.setting arith.now) self.old self.new (withdraw_call question.bench question.order) (told_withdrawn result) }

@@ -12,7 +12,7 @@ use itoa::Buffer;
 use row::cell::OutOfRange;
 use std::fmt;
 
-#[derive(Clone, Copy)]
+#[derive(Clone, Copy, PartialEq, Eq, Debug)]
 pub enum Refusal {
     // 1: the row has not 2 to 65 cells
     RowLength,
@@ -75,7 +75,7 @@ impl From<JudgingOperation> for Refusal {
 }
 
 // The details of a refusal that has some.
-#[derive(Clone, Copy)]
+#[derive(Clone, Copy, PartialEq, Eq, Debug)]
 pub enum Details {
     // the order and the operation at which an addition left its range
     Adding(OutOfRange),

@@ -52,6 +52,7 @@ impl<'r, A: Arithmetic> Bench<'r, A> {
     }
 
     // Adds a zero, given by its eight bytes, and answers its number. Refusals: 17, 2, 3, 4, 5.
+    #[tactic(auto, using(crate::proofs::Law::law_at, crate::proofs::Adding::adding))]
     pub fn add(&mut self, arith: &mut A, bytes: &[u8; 8]) -> Result<u8, Refusal>
         requires law { A.lawful arith.old }
         ensures called { AnswersCall (A.setting arith.old) self.old self.new (add_call bytes.now) (told_added result) }
@@ -61,7 +62,7 @@ impl<'r, A: Arithmetic> Bench<'r, A> {
         ensures arith { Stays A.setting A.lawful arith.old arith.new }
     {
         let x = arith.admit(bytes)?;
-        if self.out > 0 {
+        if !self.is_free() {
             return Err(Refusal::QuestionOut);
         }
         let number = self.next_number();
@@ -78,6 +79,7 @@ impl<'r, A: Arithmetic> Bench<'r, A> {
     }
 
     // Makes the row new and forgets the zeros. Refusal: 2.
+    #[tactic(auto, using(crate::proofs::Law::law_at), unfolding(coefficients::specs::Calls::step))]
     pub fn clear(&mut self, arith: &A) -> Result<(), Refusal>
         requires law { A.lawful arith.now }
         ensures called { AnswersCall (A.setting arith.now) self.old self.new clear_call (told_cleared result) }

@@ -30,6 +30,7 @@ fn with_sign<A: Arithmetic>(arith: &A, v: A::Number, k: u8) -> A::Number
 }
 
 // The six operations for an order k, where n zeros are held: the value and the bound, or the operation that left its range.
+#[inline(always)]
 #[tactic(auto, unfolding(coefficients::specs::Closing::closed))]
 fn close_numbers<A: Arithmetic>(
     arith: &mut A,
@@ -64,6 +65,7 @@ fn close_numbers<A: Arithmetic>(
 
 // Closes the order k, whose cell is given, where n zeros are held: the value and the bound, or the operation that left its range.
 // Order 0 is 1 with the bound 0.
+#[inline(always)]
 pub fn close<A: Arithmetic>(
     arith: &mut A,
     cell: Cell<A::Plain>,

@@ -1,15 +1,9 @@
 -- The definition of an addition puts the new cells from order 1 upwards, the code from order n downwards. Both give one row:
 -- a cell is made from the old row alone, and cells put at different orders do not disturb each other.
-use Rattle.std.proofs.Common.{◌≡◌, ℕ, zero, suc, ◌<◌, List, set, ℤ, Ok, Err, Result, sym, refl, ap, ◌∙◌, arith}
+use Rattle.std.proofs.Common.{◌≡◌, ℕ, zero, suc, ◌<◌, List, set, ℤ, sym, refl, ap, ◌∙◌, arith}
 use lib.Seq.{set_comm}
 use Rattle.arithmetic.specs.Meaning.{Meaning}
 use Rattle.coefficients.specs.Row.{Cell as Values, cell, Trial, done, stopped, Update, written, refused_at, new_cell, row_after, put, put_tried}
-use Rattle.row.specs.declared.cell.OutOfRange.{OutOfRange}
-use Rattle.row.specs.Answers.{Tells}
-
-tells_put : (r : Result (Unit {0}) OutOfRange) (j : ℕ) (c : Values) (w : Update) → Tells r w → Tells r (put j c w)
-tells_put (Ok u) j c w t = (set t.0 j c, ap (put j c) t.1)
-tells_put (Err e) j c w t = (t.0, ap (put j c) t.1)
 
 module _ (m : Meaning) (x : ℤ) (R : List Values) where
   abbrev tried_onto : ℕ → Trial Values → (List Values → Update) → List Values → Update
@@ -50,17 +44,3 @@ module _ (m : Meaning) (x : ℤ) (R : List Values) where
   pub onto_stopped : (acc : List Values) (j o : ℕ) → stopped o ≡ new_cell m x (cell R (suc j)) (cell R j) → onto acc (suc j) ≡ refused_at (suc j) o
   unfolding onto
   onto_stopped acc j o e = ap (λ t. tried_onto (suc j) t (λ a. onto a j) acc) (sym e)
-
-  -- what a trial of an addition answers
-  pub tells_none : (k : ℕ) → k ≡ 0 → Tells (Ok tt) (row_after m x R k)
-  unfolding row_after
-  tells_none zero e = (R, refl)
-  tells_none (suc k) e = absurd (omega arith)
-
-  pub tells_done : (j : ℕ) (c : Values) → done c ≡ new_cell m x (cell R (suc j)) (cell R j) → (r : Result (Unit {0}) OutOfRange) → Tells r (row_after m x R j) → Tells r (row_after m x R (suc j))
-  unfolding row_after
-  tells_done j c e r t = let p : Tells r (put (suc j) c (row_after m x R j)) = tells_put r (suc j) c (row_after m x R j) t in (p.0, p.1 ∙ ap (λ t. put_tried (suc j) t (row_after m x R j)) e)
-
-  pub tells_stopped : (j o : ℕ) → stopped o ≡ new_cell m x (cell R (suc j)) (cell R j) → refused_at (suc j) o ≡ row_after m x R (suc j)
-  unfolding row_after
-  tells_stopped j o e = ap (λ t. put_tried (suc j) t (row_after m x R j)) e

@@ -1,5 +1,5 @@
 -- What the functions of a row answer, and what they leave in its plain cells.
-use Rattle.std.specs.Prelude.{◌≡◌, ℕ, suc, ◌-◌, ◌<◌, true, false, List, map, length, take, drop, ℤ, is_ok, Ok, Err, Result, slice_index_or}
+use Rattle.std.specs.Prelude.{◌≡◌, ℕ, suc, ◌-◌, ◌<◌, true, false, List, map, length, take, drop, ℤ, is_ok, Option, None, Some, Ok, Err, Result, slice_index_or}
 use Rattle.arithmetic.specs.Setting.{Setting}
 use Rattle.coefficients.specs.Row.{Cell as Values, Trial, done, stopped, Update, written, refused_at, row_after, new_row}
 use Rattle.row.specs.declared.cell.Cell.{Cell}
@@ -23,9 +23,18 @@ abbrev pub update : Result (Unit {0}) OutOfRange → List Values → Update
 update (Ok u) row = written row
 update (Err e) row = refused_at e.order (operation_number e.operation)
 
+-- the order and the operation at which an addition is refused, if it is
+abbrev pub refusal : Update → Option (ℕ × ℕ)
+refusal (written row) = None
+refusal (refused_at j o) = Some (j, o)
+
+abbrev pub told : Result (Unit {0}) OutOfRange → Option (ℕ × ℕ)
+told (Ok u) = None
+told (Err e) = Some (e.order, operation_number e.operation)
+
 -- a trial of an addition answers whether it is refused, and at which order and operation
 abbrev pub Tells : Result (Unit {0}) OutOfRange → Update → Type 0
-Tells r w = (row : List Values) × (update r row ≡ w)
+Tells r w = told r ≡ refusal w
 
 -- an addition to the orders 1 to n of a row: as defined, the cells written kept as the arithmetic writes them; refused, every plain
 -- cell stays; in any case cell 0 and the cells past n stay

@@ -71,6 +71,7 @@ fn update<A: Arithmetic>(
 
 // Tries the orders n down to 1 of an addition, and writes none. The numbers of cell j are carried over to the next order, so each
 // cell is read once.
+#[tactic(auto, using(crate::proofs::Trying::nothing_refused, crate::proofs::Trying::refused_first, crate::proofs::Cells::reads_in_row))]
 fn try_orders<A: Arithmetic>(
     arith: &mut A,
     x: A::Number,
@@ -103,6 +104,7 @@ fn cell_of<P: Copy>(first: Cell<P>, rest: &[Cell<P>], order: usize) -> Cell<P>
 // Writes the orders n down to 1 of an addition that was tried and not refused. Order k stands at rest[k − 1]; the cell of order 0 is
 // given beside them, to be read. (A loop of its own: one function with a closure for each new cell would have to take the row to be
 // written for a trial too, and to state what the closure does with each cell.)
+#[tactic(auto, using(crate::proofs::Writing::begins, crate::proofs::Writing::ends, crate::proofs::Cells::reads_in_row))]
 fn write_orders<A: Arithmetic>(
     arith: &mut A,
     x: A::Number,
