@@ -11,7 +11,7 @@ use itoa::Buffer;
 use patterns::Pattern;
 use std::fmt;
 
-#[derive(Clone, Copy)]
+#[derive(Clone, Copy, PartialEq, Eq, Debug)]
 pub enum Answer {
     // the number of the zero that was added
     Added(u8),

@@ -1,7 +1,7 @@
 // What may be asked of a bench.
 use patterns::Pattern;
 
-#[derive(Clone, Copy)]
+#[derive(Clone, Copy, PartialEq, Eq, Debug)]
 pub enum Call {
     // adds a zero
     Add(Pattern),

@@ -7,7 +7,7 @@ use Rattle.std.specs.Io.Take.{take_limit, take_inner, take_remaining}
 use Rattle.std.specs.declared.io.traits.Take.{Take}
 use Rattle.std.proofs.lemmas.List.{take_all, length-take-le}
 use Rattle.integers.proofs.Tests.{leb_yes, leb_no}
-use Rattle.sheet.specs.Format.{refused, header_fault, format_of, with_format, opening}
+use Rattle.sheet.specs.Layout.{refused, header_fault, format_of, with_format}
 use Rattle.report.specs.Text.{fault_line}
 use Rattle.report.specs.Report.{by_header, report}
 

@@ -1,16 +1,23 @@
--- A report call of the loop, as a report_step of the bench that the loop began with: the arithmetic is set as it was, the bench was made so, the
--- sheet is the same, and the buffer has 128 bytes.
-use Rattle.std.proofs.Common.{◌≡◌, ℕ, ◌+◌, ◌-◌, ◌<◌, suc, List, ◌++◌, length, take, drop, Option, sym, ap, subst, ◌∙◌, arith}
+-- A turn of the loop, seen from the bench that the loop began with: the arithmetic is set as it was, the bench was made so, and the
+-- sheet is the same.
+use Rattle.std.proofs.Common.{◌≡◌, ℕ, ◌+◌, ◌-◌, ◌<◌, suc, true, false, List, ◌++◌, length, take, drop, Option, None, Some, Err, refl, sym, ap, subst, ◌∙◌, arith}
 use Rattle.std.specs.Io.KnownBytes.{Appends}
 use Rattle.std.proofs.Math.Seq.{take-append_seam}
 use Rattle.arithmetic.specs.Setting.{Setting}
-use Rattle.coefficients.specs.Calls.{Making}
+use Rattle.coefficients.specs.Calls.{Making, State}
 use Rattle.bench.specs.Benches.{making_of}
 use Rattle.bench.specs.declared.bench.Bench.{Bench}
-use Rattle.sheet.specs.Format.{Reading, reading}
+use Rattle.calls.specs.Lines.{lines}
+use Rattle.sheet.specs.Contents.{Contents}
+use Rattle.sheet.specs.Layout.{Reading, ended, reads, faulty, reading}
 use Rattle.sheet.specs.declared.fault.SheetFault.{SheetFault}
-use Rattle.report.specs.Steps.{report_step}
-use Rattle.report.specs.Calls.{report_state_at}
+use Rattle.report.specs.Book.{book_of}
+use Rattle.report.specs.Steps.{ReportState, ReportAnswer, lines_answered, is_slip, step_by_reading, ending_by}
+use Rattle.report.specs.Calls.{told_kept, report_state, next_reading, slip_step, Answers}
+use Rattle.report.specs.declared.report.Report.{Report}
+use Rattle.report.specs.declared.refusal.Unreported.{Unreported}
+use Rattle.report.specs.declared.refusal.Unreported.TheVariants.{NoRoom, Faulty}
+use Rattle.report.proofs.Slips.{Going, goes_on, all_told, ends}
 
 -- as many readings are left as turns were not taken
 pub none_taken : (n : ℕ) → n ≡ n - 0
@@ -28,18 +35,53 @@ pub written_text : (old new : List ℕ) (n : ℕ) (text : List ℕ) (out out' : 
 written_text old new n text out out' l e w =
     subst (λ x. Appends out out' x) (ap (λ x. take n x) e ∙ ap (λ x. take x (text ++ drop n old)) l ∙ take-append_seam text (drop n old)) w
 
-module _ {A N P : Type 0} {g : _} (st st' : Setting P) (b : Making) (sheet sheet' : List ℕ) (room byte slips : ℕ) (met : Option SheetFault) (bench : Bench A N P g)
-    (same : st' ≡ st) (made : making_of st bench ≡ b) (bytes : sheet' ≡ sheet) (long : room ≡ 128) where
-  pub as_step : report_step (making_of st' bench) sheet' room (report_state_at st' byte slips met bench) ≡ report_step b sheet 128 (report_state_at st byte slips met bench)
-  as_step =
-      ap (λ t. report_step (making_of t bench) sheet' room (report_state_at t byte slips met bench)) same
-      ∙ ap (λ c. report_step c sheet' room (report_state_at st byte slips met bench)) made
-      ∙ ap (λ x. report_step b x room (report_state_at st byte slips met bench)) bytes
-      ∙ ap (λ r. report_step b sheet r (report_state_at st byte slips met bench)) long
+-- a refused report call has read no slip
+pub refused_none : (b : Making) (s : ReportState) (r : Reading) (u : Unreported) (old new : List ℕ) (said : ReportAnswer) → Answers (Err u) old new said → said ≡ (step_by_reading b s r).answer → false ≡ is_slip r
+refused_none b s ended u old new said a e = refl
+refused_none b s (reads p end) (NoRoom u) old new said a e = absurd (cc (a.0, e))
+refused_none b s (reads p end) (Faulty u) old new said a e = absurd (cc (a.0, e))
+refused_none b s (faulty f) u old new said a e = refl
 
-  pub then_as : (byte' slips' : ℕ) (met' : Option SheetFault) (bench' : Bench A N P g) → report_state_at st' byte' slips' met' bench' ≡ (report_step (making_of st' bench) sheet' room (report_state_at st' byte slips met bench)).then →
-      report_state_at st byte' slips' met' bench' ≡ (report_step b sheet 128 (report_state_at st byte slips met bench)).then
-  then_as byte' slips' met' bench' e = sym (ap (λ t. report_state_at t byte' slips' met' bench') same) ∙ e ∙ ap (λ t. t.then) as_step
+-- after a slip no fault is kept
+unmet_after : (b : Making) (s : ReportState) (r : Reading) (fault : Option SheetFault) → true ≡ is_slip r → told_kept fault ≡ (step_by_reading b s r).then.fault → fault ≡ None
+unmet_after b s ended fault h e = absurd (cc h)
+unmet_after b s (reads p end) None h e = refl
+unmet_after b s (reads p end) (Some f) h e = absurd (cc e)
+unmet_after b s (faulty f) fault h e = absurd (cc h)
 
-  pub reading_as : (r : Reading) → reading st'.meaning sheet' byte slips ≡ r → reading b.meaning sheet byte slips ≡ r
-  reading_as r e = ap (λ c. reading c.meaning sheet byte slips) (sym made) ∙ ap (λ x. reading st.meaning x byte slips) (sym bytes) ∙ ap (λ t. reading t.meaning sheet' byte slips) (sym same) ∙ e
+module _ {A N P : Type 0} {g : _} (st st' : Setting P) (b : Making) (sheet : List ℕ) (r : Report) (bench : Bench A N P g) (same : st' ≡ st) (made : making_of st bench ≡ b) (bytes : r.reader.bytes.now ≡ sheet) where
+  abbrev before : ReportState
+  before = report_state st r bench
+
+  abbrev next : Reading
+  next = reading b.meaning sheet before.byte before.slips
+
+  reading_as : next_reading st' r ≡ next
+  reading_as = ap (λ t. next_reading t r) same ∙ ap (λ c. reading c.meaning r.reader.bytes.now before.byte before.slips) made ∙ ap (λ x. reading b.meaning x before.byte before.slips) bytes
+
+  step_as : slip_step st' r bench ≡ step_by_reading b before next
+  step_as =
+      ap (λ t. slip_step t r bench) same
+      ∙ ap (λ c. step_by_reading c before (reading c.meaning r.reader.bytes.now before.byte before.slips)) made
+      ∙ ap (λ x. step_by_reading b before (reading b.meaning x before.byte before.slips)) bytes
+
+  -- where the lines of the next slip were written, if there is one
+  module _ (k : ℕ) (first : Contents) (state : State) (old now new : Option (List ℕ)) (i : Going b sheet (suc k) before first state old now) (w : Appends now new (lines_answered (slip_step st' r bench).answer)) where
+    written : Appends now new (lines_answered (step_by_reading b before next).answer)
+    written = subst (λ t. Appends now new (lines_answered t.answer)) step_as w
+
+    pub turn_told : false ≡ is_slip (next_reading st' r) → Appends old new (lines b.meaning (book_of first.slips b state))
+    turn_told h = all_told b sheet k before before first state old now new i (sym (h ∙ ap is_slip reading_as)) written
+
+    module _ (r' : Report) (bench' : Bench A N P g) (then : report_state st' r' bench' ≡ (slip_step st' r bench).then) where
+      then_as : report_state st r' bench' ≡ (step_by_reading b before next).then
+      then_as = sym (ap (λ t. report_state t r' bench') same) ∙ then ∙ ap (λ t. t.then) step_as
+
+      pub turn_on : true ≡ is_slip (next_reading st' r) → Going b sheet k (report_state st r' bench') first state old new
+      turn_on h = goes_on b sheet k before (report_state st r' bench') first state old now new i (sym (h ∙ ap is_slip reading_as)) written then_as
+
+      pub turn_ends : r.fault ≡ None → false ≡ is_slip (next_reading st' r) → ending_by r'.reader.slips (told_kept r'.fault) ≡ first.ending
+      turn_ends n h = ends b sheet k before (report_state st r' bench') first state old now new i (ap told_kept n) (sym (h ∙ ap is_slip reading_as)) then_as
+
+      pub turn_unmet : true ≡ is_slip (next_reading st' r) → r'.fault ≡ None
+      turn_unmet h = unmet_after b before next r'.fault (h ∙ ap is_slip reading_as) (ap (λ s. s.fault) then_as)

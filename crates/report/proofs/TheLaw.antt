@@ -1,14 +1,22 @@
 -- The book of a sheet is kept, entry by entry: each entry has the answer that is defined for its call in the state that the entries before
--- lead to. So the law over books holds at each of its places.
-use Rattle.std.proofs.Common.{◌≡◌, ℕ, Bool, true, false, cond, List, [], ◌∷◌, ◌++◌, Option, None, Some, refl, subst}
+-- lead to. So the law over books holds at each of its places, in every arithmetic that shows the rules, and so in both that a sheet may name.
+use Rattle.std.proofs.Common.{◌≡◌, ℕ, Bool, true, false, cond, List, [], ◌∷◌, ◌++◌, Option, None, Some, refl, subst, arith}
+use Rattle.arithmetic.specs.Meaning.{Meaning}
 use Rattle.arithmetic.specs.Rules.{Rules}
 use Rattle.coefficients.specs.Calls.{Making, State, Step, Call, Answer, step, new_bench, issue, mark, withdraw}
 use Rattle.coefficients.specs.Book.{Entry, KeptFrom, Kept, Place, state_after, accepted}
 use Rattle.coefficients.proofs.Books.{values_enclosed, verdicts_hold, values_agree}
 use Rattle.calls.specs.Entries.{alone, settling}
-use Rattle.sheet.specs.Format.{Field, Task, asks, examines, Slip}
+use Rattle.binary64.specs.TheRules.{rules as binary64_rules}
+use Rattle.scientific.specs.declared.precision.Precision.{Precision}
+use Rattle.scientific.proofs.TheRules.{rules as decimal_rules}
+use Rattle.sheet.specs.declared.format.Format.TheVariants.{Binary64, Decimal}
+use Rattle.sheet.specs.Layout.{Field, Task, asks, examines, Slip, Opening, opened, refused, opening}
+use Rattle.sheet.specs.Contents.{contents}
+use Rattle.sheet.proofs.Readings.{is_whole}
 use Rattle.report.specs.Book.{order_in, task_entries, entries_by, slip_entries, book_of}
-use Rattle.report.specs.Law.{LinesHold}
+use Rattle.report.specs.Law.{LinesHold, SheetHolds, law_by_header, ReportLaw}
+use Rattle.report.specs.Text.{making}
 
 module _ (b : Making) where
   kept_append : (s : State) (es fs : List Entry) → KeptFrom b s es → KeptFrom b (state_after b s es) fs → KeptFrom b s (es ++ fs)
@@ -57,3 +65,18 @@ module _ (b : Making) where
     where
       kept : Kept b (book_of slips b (new_bench b))
       kept = kept_book slips (new_bench b)
+
+pub sheet_holds : (m : Meaning) (K : ℕ) (s : List ℕ) → Rules m → SheetHolds m K s
+sheet_holds m K s R = record { read = is_whole m s; lines = lines_hold (making m K) R (contents m s).slips }
+
+-- decimal has eight digits
+abbrev eight : Precision
+eight = record { digits = 8; least = omega arith; most = omega arith }
+
+pub report_law : (s : List ℕ) → ReportLaw s
+report_law s = by (opening s)
+  where
+    by : (o : Opening) → law_by_header s o
+    by (opened Binary64 K) = sheet_holds _ K s binary64_rules
+    by (opened Decimal K) = sheet_holds _ K s (decimal_rules eight)
+    by (refused f) = tt

@@ -1,4 +1,4 @@
--- Entries in report_step: their lines and the state after them are those of the first and then those of the others.
+-- Entries in turn: their lines and the state after them are those of the first and then those of the others.
 use Rattle.std.proofs.Common.{◌≡◌, ℕ, List, [], ◌∷◌, ◌++◌, sym, refl, ap, ◌∙◌}
 use Rattle.std.proofs.lemmas.List.{append_assoc}
 use Rattle.arithmetic.specs.Meaning.{Meaning}

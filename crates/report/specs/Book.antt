@@ -4,7 +4,7 @@ use Rattle.std.specs.Prelude.{ℕ, List, [], ◌∷◌, ◌++◌, Option, None, 
 use Rattle.coefficients.specs.Calls.{Making, State, add, clear, ask}
 use Rattle.coefficients.specs.Book.{Entry, state_after}
 use Rattle.calls.specs.Entries.{alone, examination}
-use Rattle.sheet.specs.Format.{Field, Task, asks, examines, Slip}
+use Rattle.sheet.specs.Layout.{Field, Task, asks, examines, Slip}
 
 -- the order in a field of one byte
 abbrev pub order_in : Field → ℕ

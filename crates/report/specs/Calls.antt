@@ -3,10 +3,10 @@ use Rattle.std.specs.Prelude.{◌≡◌, ℕ, List, ◌++◌, length, drop, Opti
 use Rattle.arithmetic.specs.Setting.{Setting}
 use Rattle.bench.specs.Benches.{making_of, state_of}
 use Rattle.bench.specs.declared.bench.Bench.{Bench}
-use Rattle.sheet.specs.Format.{Fault}
+use Rattle.sheet.specs.Layout.{Fault, Reading, reading}
 use Rattle.sheet.specs.Faults.{told_fault}
 use Rattle.sheet.specs.declared.fault.SheetFault.{SheetFault}
-use Rattle.report.specs.Steps.{ReportState, ReportAnswer, no_room, wrote, stopped_at, ReportStep, report_step}
+use Rattle.report.specs.Steps.{ReportState, ReportAnswer, no_room, wrote, stopped_at, ReportStep, step_by_reading, report_step}
 use Rattle.report.specs.declared.report.Report.{Report}
 use Rattle.report.specs.declared.refusal.Unreported.{Unreported}
 use Rattle.report.specs.declared.refusal.Unreported.TheVariants.{NoRoom, Faulty}
@@ -32,6 +32,13 @@ report_state st r bench = report_state_at st r.reader.at r.reader.slips r.fault 
 -- the report call that is defined for them, with a line buffer of so many bytes
 abbrev pub step_of : {A N P : Type 0} {g : _} → Setting P → Report → Bench A N P g → ℕ → ReportStep
 step_of st r bench room = report_step (making_of st bench) r.reader.bytes.now room (report_state st r bench)
+
+-- the next reading of a report, and the report call by it: what is defined where no fault was met and the line buffer fits
+abbrev pub next_reading : {P : Type 0} → Setting P → Report → Reading
+next_reading st r = reading st.meaning r.reader.bytes.now r.reader.at r.reader.slips
+
+abbrev pub slip_step : {A N P : Type 0} {g : _} → Setting P → Report → Bench A N P g → ReportStep
+slip_step st r bench = step_by_reading (making_of st bench) (report_state st r bench) (next_reading st r)
 
 -- ---- what a report call answers
 -- a text is written at the start of a buffer, its length is answered, and the rest of the buffer is left

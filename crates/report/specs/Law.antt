@@ -7,8 +7,8 @@ use Rattle.coefficients.specs.Closing.{Verdict}
 use Rattle.coefficients.specs.Calls.{Making, ask, mark, asked, marked}
 use Rattle.coefficients.specs.Book.{Entry, Kept, Place, zeros_held}
 use Rattle.coefficients.specs.Law.{distance, scaled, VerdictHolds, SameZeros, WithinBoth}
-use Rattle.sheet.specs.Format.{Opening, opened, refused, opening}
-use Rattle.sheet.specs.Contents.{EnoughReadings}
+use Rattle.sheet.specs.Layout.{Opening, opened, refused, opening}
+use Rattle.sheet.specs.Contents.{IsWhole}
 use Rattle.report.specs.Text.{making, sheet_book}
 use Rattle.report.specs.Report.{meaning_of}
 
@@ -30,9 +30,9 @@ pub record LinesHold (b : Making) (book : List Entry) : Type 0 where
       SameZeros b.meaning (zeros_held b.meaning before) b'.meaning (zeros_held b'.meaning before') →
       WithinBoth b.meaning v e b'.meaning v' e'
 
--- of the report of a sheet, if its header is accepted: the whole sheet is read, up to a fault, and what the lines say is true
+-- of the report of a sheet, if its header is accepted: the sheet is read to its end or to a fault, and what the lines say is true
 pub record SheetHolds (m : Meaning) (K : ℕ) (s : List ℕ) : Type 0 where
-  pub read : EnoughReadings m s
+  pub read : IsWhole m s
   pub lines : LinesHold (making m K) (sheet_book m K s)
 
 abbrev pub law_by_header : List ℕ → Opening → Type 0

@@ -3,7 +3,7 @@ use Rattle.std.specs.Prelude.{ℕ, List}
 use Rattle.arithmetic.specs.Meaning.{Meaning}
 use Rattle.binary64.specs.Patterns.{meaning as binary64}
 use Rattle.scientific.specs.Patterns.{meaning as decimal}
-use Rattle.sheet.specs.Format.{Opening, opened, refused, opening}
+use Rattle.sheet.specs.Layout.{Opening, opened, refused, opening}
 use Rattle.sheet.specs.declared.format.Format.{Format}
 use Rattle.sheet.specs.declared.format.Format.TheVariants.{Binary64, Decimal}
 use Rattle.report.specs.Text.{fault_line, text}

@@ -1,9 +1,9 @@
 -- One report call: its answer, and where the report and its bench stand then.
-use Rattle.std.specs.Prelude.{ℕ, suc, cond, List, [], Option, None, Some, nat_le}
+use Rattle.std.specs.Prelude.{ℕ, suc, Bool, true, false, cond, List, [], Option, None, Some, nat_le}
 use Rattle.coefficients.specs.Calls.{Making, State}
 use Rattle.coefficients.specs.Book.{state_after}
 use Rattle.calls.specs.Lines.{lines}
-use Rattle.sheet.specs.Format.{Fault, Reading, ended, reads, faulty, reading}
+use Rattle.sheet.specs.Layout.{Fault, Reading, ended, reads, faulty, reading}
 use Rattle.sheet.specs.Contents.{Ending, whole, broken}
 use Rattle.report.specs.Book.{slip_entries}
 
@@ -21,6 +21,18 @@ pub data ReportAnswer : Type 0 where
   wrote : List ℕ → ReportAnswer
   -- the slip has a fault and stays unread
   stopped_at : Fault → ReportAnswer
+
+-- the lines that a call writes
+abbrev pub lines_answered : ReportAnswer → List ℕ
+lines_answered no_room = []
+lines_answered (wrote text) = text
+lines_answered (stopped_at f) = []
+
+-- a slip was read, neither the sheet's end nor a fault
+abbrev pub is_slip : Reading → Bool
+is_slip ended = false
+is_slip (reads p end) = true
+is_slip (faulty f) = false
 
 pub record ReportStep : Type 0 where
   pub answer : ReportAnswer

@@ -5,7 +5,7 @@ use Rattle.coefficients.specs.Calls.{Making, State, new_bench}
 use Rattle.coefficients.specs.Book.{Entry}
 use Rattle.bench.specs.Refusals.{detail_text}
 use Rattle.calls.specs.Lines.{newline, lines}
-use Rattle.sheet.specs.Format.{Fault}
+use Rattle.sheet.specs.Layout.{Fault}
 use Rattle.sheet.specs.Contents.{Ending, whole, broken, Contents, contents}
 use Rattle.report.specs.Book.{book_of}
 

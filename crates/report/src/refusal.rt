@@ -6,10 +6,10 @@ ghost use Rattle.report.specs.declared.refusal.Unreported.TheVariants.{NoRoom, F
 use sheet::fault::SheetFault;
 
 // 18: the line buffer has not 128 bytes. It is no fault of the sheet.
-#[derive(Clone, Copy, Debug, PartialEq, Eq)]
+#[derive(Clone, Copy, PartialEq, Eq, Debug)]
 pub struct SmallBuffer;
 
-#[derive(Clone, Copy)]
+#[derive(Clone, Copy, PartialEq, Eq, Debug)]
 pub enum Unreported {
     NoRoom(SmallBuffer),
     // the next slip has a fault

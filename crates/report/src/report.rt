@@ -2,7 +2,7 @@
 ghost use Rattle.std.specs.Prelude.{◌≡◌, ◌≤◌, length, None, IsOk, IfOk, OnErr, ◌↔◌};
 ghost use Rattle.arithmetic.specs.Setting.{Stays};
 ghost use Rattle.bench.specs.Benches.{Keeps};
-ghost use Rattle.sheet.specs.Format.{ended, reading};
+ghost use Rattle.sheet.specs.Layout.{ended, reading};
 ghost use Rattle.sheet.specs.Reading.{told_reading, Moved};
 ghost use Rattle.report.specs.Steps.{ending_by};
 ghost use Rattle.report.specs.Text.{ending_line};

@@ -1,15 +1,16 @@
 // Reporting a whole sheet to a writer.
-ghost use Rattle.std.specs.Prelude.{◌≡◌, ◌≤◌, length, OnOk, IfOk, IfSome};
+ghost use Rattle.std.specs.Prelude.{◌≡◌, ◌≤◌, length, None, OnOk, IfOk, IfSome, List, ℕ};
 ghost use Rattle.std.specs.Io.KnownBytes.{Appends};
-ghost use Rattle.bench.specs.Benches.{making_of, state_of};
+ghost use Rattle.arithmetic.specs.Setting.{Stays};
+ghost use Rattle.bench.specs.Benches.{making_of, state_of, Keeps};
 ghost use Rattle.calls.specs.Lines.{lines};
 ghost use Rattle.sheet.specs.Contents.{contents};
 ghost use Rattle.report.specs.Book.{book_of};
 ghost use Rattle.report.specs.Report.{report};
 ghost use Rattle.report.specs.Text.{ending_line, text_from, text};
-ghost use Rattle.report.specs.Law.{SheetHolds, ReportLaw};
-ghost use Rattle.report.specs.Steps.{ending_by};
-ghost use Rattle.report.specs.Calls.{told_kept};
+ghost use Rattle.report.specs.Law.{ReportLaw};
+ghost use Rattle.report.specs.Steps.{lines_answered, is_slip, ending_by};
+ghost use Rattle.report.specs.Calls.{told_kept, report_state, next_reading, slip_step};
 
 use crate::lines::{LEAST_BUFFER, line_of_fault};
 use crate::report::Report;
@@ -25,6 +26,35 @@ use sheet::opening::LONGEST;
 use std::alloc::Global;
 use std::io::{self, Read, Write};
 
+// Writes the lines of the next slip of a sheet, and answers whether there is one: there is none at the sheet's end nor at a fault.
+#[tactic(auto, using(crate::proofs::Loop::written_text, crate::proofs::Loop::refused_none))]
+fn write_slip<A: Arithmetic, W: Write>(
+    report: &mut Report<'_>,
+    bench: &mut Bench<'_, A>,
+    arith: &mut A,
+    buffer: &mut [u8],
+    out: &mut W,
+) -> io::Result<bool>
+    requires law { A.lawful arith.old }
+    requires unmet { report.old.fault ≡ None }
+    requires room { 128 ≤ length buffer.old }
+    ensures lines { OnOk result (Appends (W.contents out.old) (W.contents out.new) (lines_answered (slip_step (A.setting arith.old) report.old bench.old).answer)) }
+    ensures then { report_state (A.setting arith.old) report.new bench.new ≡ (slip_step (A.setting arith.old) report.old bench.old).then }
+    ensures slip { IfOk result (λ read. read ≡ is_slip (next_reading (A.setting arith.old) report.old)) }
+    ensures bytes { report.new.reader.bytes.now ≡ report.old.reader.bytes.now }
+    ensures keeps { Keeps (A.setting arith.old) bench.old bench.new }
+    ensures arith { Stays A.setting A.lawful arith.old arith.new }
+{
+    let Ok(length) = report.next_slip(bench, arith, buffer) else {
+        return Ok(false);
+    };
+    if length == 0 {
+        return Ok(false);
+    }
+    out.write_all(&buffer[..length])?;
+    Ok(true)
+}
+
 // Writes the lines of all slips of a sheet, and answers the report where it ends.
 fn write_slips<'s, A: Arithmetic, W: Write>(
     sheet: Sheet<'s>,
@@ -39,13 +69,9 @@ fn write_slips<'s, A: Arithmetic, W: Write>(
     let mut report = Report::new(sheet);
     let mut buffer = [0; LEAST_BUFFER];
     for turn in 0..sheet.bytes.len() {
-        let Ok(length) = report.next_slip(bench, arith, &mut buffer) else {
-            return Ok(report);
-        };
-        if length == 0 {
+        if !write_slip(&mut report, bench, arith, &mut buffer, out)? {
             return Ok(report);
         }
-        out.write_all(&buffer[..length])?;
     }
     Ok(report)
 }
@@ -89,8 +115,7 @@ fn report_opened<A: Arithmetic, W: Write>(
 ) -> io::Result<()>
     requires law { A.lawful arith.old }
     requires cells { 65 ≤ length cells.old }
-    ensures written { OnOk result (Appends (W.contents out.old) (W.contents out.new) (text (A.setting arith.old).meaning sheet.entry.highest_order sheet.entry.bytes.now)) }
-    ensures law { SheetHolds (A.setting arith.old).meaning sheet.entry.highest_order sheet.entry.bytes.now }
+    ensures { OnOk result (Appends (W.contents out.old) (W.contents out.new) (text (A.setting arith.old).meaning sheet.entry.highest_order sheet.entry.bytes.now)) }
 {
     let row = &mut cells[..=sheet.highest_order as usize];
     let mut bench = Bench::make(arith, row, BENCH);
@@ -99,6 +124,7 @@ fn report_opened<A: Arithmetic, W: Write>(
 
 // Reports a sheet to a writer: one line where its header is refused, else the lines of its slips and a last one. What the lines say is true
 // of the zeros that the sheet has put in by then.
+#[tactic(auto, using(crate::proofs::TheLaw::report_law))]
 pub fn report_sheet<W: Write>(sheet: &[u8], out: &mut W) -> io::Result<()>
     ensures written { OnOk result (Appends (W.contents out.old) (W.contents out.new) (report sheet.now)) }
     ensures law { ReportLaw sheet.now }
@@ -119,13 +145,16 @@ pub fn report_sheet<W: Write>(sheet: &[u8], out: &mut W) -> io::Result<()>
     }
 }
 
-// Reports the sheet that an input holds to a writer. Of a sheet that is too long only one byte more than the longest is read.
+// Reports the sheet that an input holds to a writer. Of a sheet that is too long only one byte more than the longest is read. Of an input whose
+// bytes are not known the law is said for every sheet that it may hold.
+#[tactic(auto, using(crate::proofs::TheLaw::report_law))]
 pub fn report_input<R: Read + Drop, W: Write>(
     alloc: Global,
     input: R,
     out: &mut W,
 ) -> io::Result<()>
-    ensures { OnOk result (IfSome (R.remaining input) (λ sheet. Appends (W.contents out.old) (W.contents out.new) (report sheet))) }
+    ensures written { OnOk result (IfSome (R.remaining input) (λ sheet. Appends (W.contents out.old) (W.contents out.new) (report sheet))) }
+    ensures law { (sheet : List ℕ) → ReportLaw sheet }
 {
     let mut sheet = Vec::new(alloc);
     input.take(LONGEST as u64 + 1).read_to_end(&mut sheet)?;

@@ -1,11 +1,11 @@
--- A slip ends after the byte where it begins. So with each reading one byte more is behind, and as many readings as bytes are enough: more
--- of them read the same.
-use Rattle.std.proofs.Common.{◌≡◌, ℕ, zero, suc, ◌+◌, ◌≤◌, ◌<◌, Bool, true, false, cond, ltb, List, [], ◌∷◌, length, sym, refl, ap, subst, arith}
+-- A slip ends after the byte where it begins. So with each reading one byte more is behind, and as many readings as bytes are enough to come
+-- to the sheet's end or to a fault.
+use Rattle.std.proofs.Common.{◌≡◌, ℕ, zero, suc, ◌+◌, ◌≤◌, ◌<◌, Bool, true, false, cond, ltb, List, [], ◌∷◌, length, refl, ap, subst, arith}
 use Rattle.std.specs.Prelude.{slice_index, nat_le}
 use Rattle.integers.proofs.Tests.{ltb_no}
 use Rattle.arithmetic.specs.Meaning.{Meaning}
-use Rattle.sheet.specs.Format.{Fault, Slip, Reading, ended, reads, faulty, has_zero, has_order, has_claim, has_tolerance, is_map, order_at, claim_at, tolerance_at, end_at, slip_at, map_fault, zero_faults, task_faults, unless_faulty, with_patterns, slip_with_map, reading}
-use Rattle.sheet.specs.Contents.{Contents, whole, followed_by, by_reading, contents_from, contents, EnoughReadings}
+use Rattle.sheet.specs.Layout.{Fault, Slip, Reading, ended, reads, faulty, has_zero, has_order, has_claim, has_tolerance, is_map, order_at, claim_at, tolerance_at, end_at, slip_at, unless_faulty, with_patterns, slip_with_map, reading}
+use Rattle.sheet.specs.Contents.{Contents, by_reading, contents_from, ReadsAs, IsWhole}
 
 -- ---- a slip ends after its map
 further : (t : Bool) (k byte at : ℕ) → byte < at → byte < cond t (at + k) at
@@ -50,20 +50,19 @@ module _ (m : Meaning) (s : List ℕ) where
   at_end : (byte slips : ℕ) → length s ≤ byte → reading m s byte slips ≡ ended
   at_end byte slips h = ap (λ t. cond t (slip_with_map m s (suc slips) (slice_index s byte) byte) ended) (ltb_no byte (length s) h)
 
-  -- ---- any two counts of readings that are enough read the same
-  by_same : (on on' : ℕ → ℕ → Contents) (slips : ℕ) (r : Reading) → ((end : ℕ) (p : Slip) → r ≡ reads p end → on end (suc slips) ≡ on' end (suc slips)) →
-      by_reading on slips r ≡ by_reading on' slips r
-  by_same on on' slips ended g = refl
-  by_same on on' slips (faulty f) g = refl
-  by_same on on' slips (reads p end) g = ap (followed_by p) (g end p refl)
+  -- ---- what is read in enough readings is all that there is to read
+  by_next : (on : ℕ → ℕ → Contents) (byte slips : ℕ) (r : Reading) → reading m s byte slips ≡ r →
+      ((p : Slip) (end : ℕ) → r ≡ reads p end → let c = on end (suc slips) in ReadsAs m s end (suc slips) c.slips c.ending) →
+      let c = by_reading on slips r in ReadsAs m s byte slips c.slips c.ending
+  by_next on byte slips ended e g = (e, refl)
+  by_next on byte slips (faulty f) e g = e
+  by_next on byte slips (reads p end) e g = (end, e, g p end refl)
 
-  same : (n k byte slips : ℕ) → length s ≤ byte + n → length s ≤ byte + k → contents_from n m s byte slips ≡ contents_from k m s byte slips
-  same zero zero byte slips h l = refl
-  same zero (suc k) byte slips h l = sym (ap (by_reading (contents_from k m s) slips) (at_end byte slips (omega arith)))
-  same (suc n) zero byte slips h l = ap (by_reading (contents_from n m s) slips) (at_end byte slips (omega arith))
-  same (suc n) (suc k) byte slips h l =
-      by_same (contents_from n m s) (contents_from k m s) slips (reading m s byte slips)
-      (λ end p e. let a = reads_after byte slips end p e in same n k end (suc slips) (omega (arith, a, h)) (omega (arith, a, l)))
+  all_read : (n byte slips : ℕ) → length s ≤ byte + n → let c = contents_from n m s byte slips in ReadsAs m s byte slips c.slips c.ending
+  all_read zero byte slips h = (at_end byte slips (omega (arith, h)), refl)
+  all_read (suc n) byte slips h =
+      by_next (contents_from n m s) byte slips (reading m s byte slips) refl
+      (λ p end e. let a = reads_after byte slips end p e in all_read n end (suc slips) (omega (arith, a, h)))
 
-  pub enough : EnoughReadings m s
-  enough n h = same n (length s) 2 0 (omega (arith, h)) (omega arith)
+  pub is_whole : IsWhole m s
+  is_whole = all_read (length s) 2 0 (omega arith)

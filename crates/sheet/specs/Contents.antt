@@ -1,7 +1,7 @@
 -- All slips of a sheet, and how its reading ends.
-use Rattle.std.specs.Prelude.{◌≡◌, ℕ, zero, suc, ◌≤◌, List, [], ◌∷◌, length}
+use Rattle.std.specs.Prelude.{◌≡◌, ℕ, zero, suc, List, [], ◌∷◌, length}
 use Rattle.arithmetic.specs.Meaning.{Meaning}
-use Rattle.sheet.specs.Format.{Slip, Fault, Reading, ended, reads, faulty, reading}
+use Rattle.sheet.specs.Layout.{Slip, Fault, Reading, ended, reads, faulty, reading}
 
 pub data Ending : Type 0 where
   -- at the sheet's end, after so many slips
@@ -32,6 +32,12 @@ contents_from (suc n) m s byte slips = by_reading (contents_from n m s) slips (r
 abbrev pub contents : Meaning → List ℕ → Contents
 contents m s = contents_from (length s) m s 2 0
 
--- more readings than the sheet has bytes read nothing more
-abbrev pub EnoughReadings : Meaning → List ℕ → Type 0
-EnoughReadings m s = (n : ℕ) → length s ≤ n → contents_from n m s 2 0 ≡ contents m s
+-- whether a sheet, from a byte on and after so many slips, reads as these slips, one after the other, and then ends so
+abbrev pub ReadsAs : Meaning → List ℕ → ℕ → ℕ → List Slip → Ending → Type 0
+ReadsAs m s byte slips [] (whole n) = (reading m s byte slips ≡ ended) × (n ≡ slips)
+ReadsAs m s byte slips [] (broken f) = reading m s byte slips ≡ faulty f
+ReadsAs m s byte slips (p ∷ ps) e = (end : ℕ) × (reading m s byte slips ≡ reads p end) × ReadsAs m s end (suc slips) ps e
+
+-- the contents are all that the sheet reads as: no slip is left out, and reading stops at the sheet's end or at a fault alone
+abbrev pub IsWhole : Meaning → List ℕ → Type 0
+IsWhole m s = ReadsAs m s 2 0 (contents m s).slips (contents m s).ending

@@ -1,8 +1,8 @@
--- The faults of the code as faults of the definitions: each has its number, its place and its cause here, once.
+-- The faults of the code as faults of the definitions, with their numbers, places and causes.
 use Rattle.std.specs.Prelude.{ℕ, List, [], ◌∷◌, Option, None, Some, Ok, Err, Result}
 use Rattle.arithmetic.specs.Causes.{cause_number}
 use Rattle.arithmetic.specs.declared.cause.Cause.{Cause}
-use Rattle.sheet.specs.Format.{Fault, header_fault, map_fault}
+use Rattle.sheet.specs.Layout.{Fault, header_fault, map_fault}
 use Rattle.sheet.specs.declared.fault.NumberFault.{NumberFault}
 use Rattle.sheet.specs.declared.fault.SlipFault.{SlipFault}
 use Rattle.sheet.specs.declared.fault.SlipFault.TheVariants.{Map, Short, Number}

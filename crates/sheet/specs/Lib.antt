@@ -1,5 +1,5 @@
 pub mod Formats
-pub mod Format
+pub mod Layout
 pub mod Contents
 pub mod Faults
 pub mod Reading

@@ -1,6 +1,6 @@
 -- What the code reads, as the definitions say it.
 use Rattle.std.specs.Prelude.{◌≡◌, ℕ, suc, ◌<◌, Option, None, Some, Ok, Err, Result}
-use Rattle.sheet.specs.Format.{Field as DefinedField, Task as DefinedTask, Slip as DefinedSlip, Opening, opened, refused, asks, examines, Reading, ended, reads, faulty}
+use Rattle.sheet.specs.Layout.{Field as DefinedField, Task as DefinedTask, Slip as DefinedSlip, Opening, opened, refused, asks, examines, Reading, ended, reads, faulty}
 use Rattle.sheet.specs.Faults.{told_slip_fault, told_fault}
 use Rattle.sheet.specs.declared.fault.SlipFault.{SlipFault}
 use Rattle.sheet.specs.declared.fault.SheetFault.{SheetFault}

@@ -8,13 +8,13 @@ use crate::place::Place;
 use arithmetic::cause::Cause;
 
 // A pattern that is no number of the arithmetic, at its field.
-#[derive(Clone, Copy)]
+#[derive(Clone, Copy, PartialEq, Eq, Debug)]
 pub struct NumberFault {
     pub place: Place,
     pub cause: Cause,
 }
 
-#[derive(Clone, Copy)]
+#[derive(Clone, Copy, PartialEq, Eq, Debug)]
 pub enum SlipFault {
     // no slip has this map
     Map(Place),
@@ -23,7 +23,7 @@ pub enum SlipFault {
     Number(NumberFault),
 }
 
-#[derive(Clone, Copy)]
+#[derive(Clone, Copy, PartialEq, Eq, Debug)]
 pub enum SheetFault {
     // the sheet has not 2 to 32,768 bytes
     Length,

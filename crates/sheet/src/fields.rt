@@ -1,6 +1,6 @@
 // Reading one slip: its map, its fields, and whether its patterns are admitted.
-ghost use Rattle.std.specs.Prelude.{◌≡◌, ◌+◌, ◌<◌, ◌≤◌, ◌++◌, length, slice_index, Some, Option, Ok, Err, IsTrue, IfOk};
-ghost use Rattle.sheet.specs.Format.{has_zero, has_order, has_claim, has_tolerance, is_map, order_at, claim_at, tolerance_at, end_at, field as field_of, task_of, slip_at, pattern_faults, zero_faults, task_faults, slip_with_map};
+ghost use Rattle.std.specs.Prelude.{◌≡◌, ◌+◌, ◌<◌, ◌≤◌, ◌++◌, length, slice_index, Some, Option, Ok, Err, IfOk};
+ghost use Rattle.sheet.specs.Layout.{has_zero, has_order, has_claim, has_tolerance, is_map, order_at, claim_at, tolerance_at, end_at, field as field_of, task_of, slip_at, pattern_faults, zero_faults, task_faults, slip_with_map};
 ghost use Rattle.sheet.specs.Faults.{told_check, first_of};
 ghost use Rattle.sheet.specs.Reading.{told_field, told_zero, told_task, told_slip, told_slip_reading};
 

@@ -1,6 +1,6 @@
 // Opening a sheet.
 ghost use Rattle.std.specs.Prelude.{◌≡◌, IfOk};
-ghost use Rattle.sheet.specs.Format.{opening};
+ghost use Rattle.sheet.specs.Layout.{opening};
 ghost use Rattle.sheet.specs.Reading.{told_opening};
 
 use crate::fault::SheetFault;

@@ -1,6 +1,6 @@
 // Reading a sheet on, slip by slip.
 ghost use Rattle.std.specs.Prelude.{◌≡◌};
-ghost use Rattle.sheet.specs.Format.{reading};
+ghost use Rattle.sheet.specs.Layout.{reading};
 ghost use Rattle.sheet.specs.Reading.{told_reading, Moved};
 
 use crate::fault::SheetFault;

@@ -1,6 +1,6 @@
 // A sheet whose header is accepted, and the reader of its slips.
 ghost use Rattle.std.specs.Prelude.{◌≡◌, ◌≤◌, Some, length, slice_index};
-ghost use Rattle.sheet.specs.Format.{format_of};
+ghost use Rattle.sheet.specs.Layout.{format_of};
 
 use crate::format::Format;
 

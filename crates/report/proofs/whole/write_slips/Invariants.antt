@@ -1,9 +1,9 @@
 -- Before each turn: what was written and what is left make the lines of the whole sheet, with one reading less left than turns were taken.
-use Rattle.std.proofs.Common.{◌≡◌, ◌-◌, length}
+use Rattle.std.proofs.Common.{◌≡◌, ◌-◌, None, length}
 use Rattle.arithmetic.specs.Setting.{Stays}
 use Rattle.bench.specs.Benches.{making_of, state_of}
 use Rattle.sheet.specs.Contents.{contents}
-use Rattle.report.specs.Calls.{report_state_at}
+use Rattle.report.specs.Calls.{report_state}
 use Rattle.report.proofs.Slips.{Going}
 use Rattle.report.proofs.whole.write_slips.Given as goal
 
@@ -12,7 +12,8 @@ invariant-loop-turn g l =
     let st = g.A.Arithmetic.setting l.initial.arith in
     let sheet = l.sheet.bytes.now in
     record {
-      going : Going (making_of st l.initial.bench) sheet (length sheet - l.turn) (report_state_at st l.report.reader.at l.report.reader.slips l.report.fault l.bench) (contents st.meaning sheet) (state_of st l.initial.bench) (g.W.Write.contents l.initial.out) (g.W.Write.contents l.out);
+      going : Going (making_of st l.initial.bench) sheet (length sheet - l.turn) (report_state st l.report l.bench) (contents st.meaning sheet) (state_of st l.initial.bench) (g.W.Write.contents l.initial.out) (g.W.Write.contents l.out);
+      unmet : l.report.fault ≡ None;
       making : making_of st l.bench ≡ making_of st l.initial.bench;
       bytes : l.report.reader.bytes.now ≡ sheet;
       room : length l.buffer ≡ 128;

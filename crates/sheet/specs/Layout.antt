@@ -1,4 +1,4 @@
--- The format of a sheet: a byte for the arithmetic, a byte for the highest order K, then slips to its end. A slip is a map of one byte, then
+-- The layout of a sheet: a byte for the arithmetic, a byte for the highest order K, then slips to its end. A slip is a map of one byte, then
 -- the fields whose bit stands in the map, the lowest bit first: 1 a zero (8 bytes), 2 an order (1), 4 a claim (8), 8 a tolerance (8).
 -- Bytes are counted from 0, slips from 1.
 use Rattle.std.specs.Prelude.{ℕ, suc, ◌+◌, ◌/◌, ◌%◌, Bool, cond, ◌&&◌, ◌||◌, List, [], ◌∷◌, ◌++◌, length, take, drop, Option, None, Some, ◌==◌, nat_le, nat_lt, slice_index}
