@@ -5,6 +5,7 @@ use Rattle.arithmetic.specs.Meaning.{Meaning}
 use Rattle.coefficients.specs.Calls.{Making, State, Answer, add, ask, added, cleared, asked, issued, marked, withdrawn, refused, new_bench, step}
 use Rattle.binary64.specs.Patterns.{meaning as binary64}
 use Rattle.scientific.specs.Patterns.{meaning as decimal}
+use Rattle.report.specs.Text.{making}
 use Rattle.exports.specs.Operations.{pattern_of}
 
 -- the state after zeros are added in turn; one that is refused changes nothing
@@ -30,10 +31,7 @@ asked_at b s n old k = cond (nat_lt k n) (asked_or b.meaning (slice_index_or old
 abbrev pub Asked : Making → State → ℕ → List (List ℕ) → List (List ℕ) → Type 0
 Asked b s n old new = (length new ≡ length old) × ((k : ℕ) → k < length old → slice_index_or new k [] ≡ asked_at b s n old k)
 
--- the answers of a card on a bench with the highest order K
-abbrev pub making : Meaning → ℕ → Making
-making m K = record { meaning = m; bench_number = 1; K = K }
-
+-- the answers of a card on a bench with the number 1 and the highest order K
 abbrev pub Worked : Meaning → ℕ → List ℕ → List (List ℕ) → List (List ℕ) → Type 0
 Worked m K zeros old new = Asked (making m K) (after_zeros (making m K) (new_bench (making m K)) zeros) 65 old new
 

@@ -1,7 +1,7 @@
-// What a program in C or in Rust can call: the report of a sheet, the operations of both arithmetics on patterns, and cards worked
-// again and again. A static library, over the crates below it.
+// What a program in C or in Rust can call: the report of a sheet, the operations of both arithmetics on patterns, and a card.
+// A static library, over the crates below it.
 #![tactic(auto)]
 
 mod card;
-mod operations;
+mod operating;
 mod reporting;

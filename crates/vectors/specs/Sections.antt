@@ -6,14 +6,14 @@ use Rattle.binary64.specs.Patterns.{meaning as meaning_of_binary64}
 use Rattle.scientific.specs.Patterns.{meaning as meaning_of_decimal}
 use Rattle.sheet.specs.declared.format.Format.{Format}
 use Rattle.sheet.specs.declared.format.Format.TheVariants.{Binary64, Decimal}
-use Rattle.vectors.specs.declared.answer.Answer.{Answer}
+use Rattle.operations.specs.declared.answer.Answer.{Answer}
 use Rattle.vectors.specs.declared.tally.Operation.{Operation}
 use Rattle.vectors.specs.declared.tally.Tally.{Tally}
 use Rattle.vectors.specs.declared.vector.Vector.{Vector}
 use Rattle.vectors.specs.declared.work.Worked.{Worked}
 use Rattle.vectors.specs.Questions.{Tells}
 use Rattle.vectors.specs.Tallies.{noted}
-use Rattle.vectors.specs.Texts.{answer_text}
+use Rattle.operations.specs.Texts.{answer_text}
 use Rattle.vectors.specs.Workings.{worked}
 
 -- the meaning of the arithmetic of a format; decimal has eight digits

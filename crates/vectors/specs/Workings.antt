@@ -5,7 +5,7 @@ use Rattle.vectors.specs.declared.vector.Vector.{Vector}
 use Rattle.vectors.specs.declared.vector.Vector.TheVariants.{Sum, Product, Lift, Admit, AtMost}
 use Rattle.vectors.specs.declared.tally.Operation.TheVariants.{Sum as RoundedSum, SplitSum, Product as RoundedProduct, SplitProduct, Lift as Lifting, Admission, Comparison}
 use Rattle.vectors.specs.declared.work.Worked.{Worked}
-use Rattle.vectors.specs.Answers.{sum_answer, split_sum_answer, product_answer, split_product_answer, lift_answer, admission_answer, comparison_answer}
+use Rattle.operations.specs.Answers.{sum_answer, split_sum_answer, product_answer, split_product_answer, lift_answer, admission_answer, comparison_answer}
 
 -- sums and products have two answers, of the rounded operation and of the split
 abbrev pub worked : Meaning → Vector → Worked

@@ -8,7 +8,6 @@
 use section::Section;
 use std::io::{BufRead, BufReader};
 
-mod answer;
 mod section;
 mod tally;
 mod vector;

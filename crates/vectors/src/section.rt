@@ -4,13 +4,13 @@ ghost use Rattle.comparison.specs.Words.{words};
 ghost use Rattle.vectors.specs.Tallies.{no_vectors};
 ghost use Rattle.vectors.specs.Sections.{meaning_of, IsWorkingOf, first_word_of, NotesAnswer, NotesBoth};
 
-use crate::answer::Answer;
 use crate::tally::{Operation, Tally};
 use crate::vector::parse;
 use crate::work::{Worked, work};
 use binary64::Binary64;
 use comparison::compare;
 use decimal::Decimal;
+use operations::answer::Answer;
 use sheet::format::Format;
 use std::fmt;
 

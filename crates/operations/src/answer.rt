@@ -1,21 +1,22 @@
 // What an operation answers, refused or not: answers of all kinds are shown and compared alike, so it is no `Result`.
 ghost use Rattle.std.specs.Prelude.{Some};
-ghost use Rattle.vectors.specs.Texts.{answer_text};
+ghost use Rattle.operations.specs.Texts.{answer_text};
 
 use arithmetic::cause::Cause;
 use patterns::Pattern;
 use std::fmt;
 
-#[derive(Clone, Copy)]
+#[derive(Clone, Copy, PartialEq, Eq, Debug)]
 pub enum Answer {
     Number(Pattern),
     // a rounded result and its error part
     Split(Pattern, Pattern),
     Truth(bool),
     Refused,
+    // the first operand that is no number is none for this cause
     NotAdmitted(Cause),
-    // an operand is none that the operation has
-    NoOperand,
+    // numbers are lifted by 0 to 192 alone
+    NotLifted,
 }
 
 impl fmt::Display for Answer {
@@ -29,7 +30,7 @@ impl fmt::Display for Answer {
             Answer::Truth(false) => write!(f, "no"),
             Answer::Refused => write!(f, "-"),
             Answer::NotAdmitted(cause) => write!(f, "!{}", cause.number()),
-            Answer::NoOperand => write!(f, "no operand"),
+            Answer::NotLifted => write!(f, "not lifted"),
         }
     }
 }

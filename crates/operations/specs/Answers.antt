@@ -1,4 +1,4 @@
--- What is answered to a vector, by the definitions of the arithmetic's operations: its meaning m gives a number for each pattern that it
+-- What an operation on patterns answers, by the definitions of the arithmetic's operations: its meaning m gives a number for each pattern that it
 -- admits, and a pattern for each number.
 use Rattle.std.specs.Prelude.{◌≡◌, ℕ, cond, Ok, Err, Result, ◌⊎◌, ℤ, ◌==◌, int_le, nat_le}
 use Rattle.std.proofs.Math.Option.{Option as Maybe, none, some}
@@ -8,8 +8,8 @@ use Rattle.arithmetic.specs.Causes.{cause_number}
 use Rattle.arithmetic.specs.declared.cause.Cause.{Cause}
 use Rattle.arithmetic.specs.declared.cause.Cause.TheVariants.{NotFinite, TooLarge, NotInOneForm}
 use Rattle.patterns.specs.declared.Pattern.{Pattern}
-use Rattle.vectors.specs.declared.answer.Answer.{Answer}
-use Rattle.vectors.specs.declared.answer.Answer.TheVariants.{Number, Split, Truth, Refused, NotAdmitted, NoOperand}
+use Rattle.operations.specs.declared.answer.Answer.{Answer}
+use Rattle.operations.specs.declared.answer.Answer.TheVariants.{Number, Split, Truth, Refused, NotAdmitted, NotLifted}
 
 -- the pattern of a number
 abbrev pub pattern_of : Meaning → ℤ → Pattern
@@ -29,17 +29,12 @@ told_parts m (some s) = Split (pattern_of m s.main) (pattern_of m s.error)
 abbrev pub cause_of : ℕ → Cause
 cause_of c = cond (c == 1) NotFinite (cond (c == 2) TooLarge NotInOneForm)
 
--- what a pattern is admitted as: a number by its own pattern, or the cause for which it is none
-abbrev pub told_admission : Meaning → Admission → Answer
-told_admission m (number z) = Number (pattern_of m z)
-told_admission m (not_admitted c) = NotAdmitted (cause_of c)
-
--- what is answered of the number that a pattern is admitted as; no operand where it is admitted as none
+-- what is answered of the number that a pattern is admitted as; the cause where it is admitted as none
 abbrev pub on_number : (ℤ → Answer) → Admission → Answer
 on_number f (number z) = f z
-on_number f (not_admitted c) = NoOperand
+on_number f (not_admitted c) = NotAdmitted (cause_of c)
 
--- what is answered of two numbers; no operand where one of the patterns is admitted as none
+-- what is answered of two numbers; the cause where one of the patterns is admitted as none, that of the first if it is so
 abbrev pub on_numbers : Meaning → (ℤ → ℤ → Answer) → Pattern → Pattern → Answer
 on_numbers m f a b = on_number (λ x. on_number (f x) (m.admit b.bytes)) (m.admit a.bytes)
 
@@ -58,10 +53,10 @@ split_product_answer m a b = on_numbers m (λ x y. told_parts m (product_split m
 
 -- numbers are lifted by 0 to 192
 abbrev pub lift_answer : Meaning → Pattern → ℕ → Answer
-lift_answer m a k = cond (nat_le k 192) (on_number (λ x. told m (lift m x k)) (m.admit a.bytes)) NoOperand
+lift_answer m a k = cond (nat_le k 192) (on_number (λ x. told m (lift m x k)) (m.admit a.bytes)) NotLifted
 
 abbrev pub admission_answer : Meaning → Pattern → Answer
-admission_answer m a = told_admission m (m.admit a.bytes)
+admission_answer m a = on_number (λ x. Number (pattern_of m x)) (m.admit a.bytes)
 
 abbrev pub comparison_answer : Meaning → Pattern → Pattern → Answer
 comparison_answer m a b = on_numbers m (λ x y. Truth (int_le x y)) a b
