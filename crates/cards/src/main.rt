@@ -5,6 +5,9 @@
 // refusal and its details. Lines that begin with `#` are comments.
 #![tactic(auto)]
 
+ghost use Rattle.std.specs.Prelude.{IsTrue, IfOk};
+ghost use Rattle.cards.specs.Checks.{Agrees};
+
 use arithmetic::Arithmetic;
 use bench::Bench;
 use binary64::Binary64;
@@ -22,6 +25,7 @@ mod call;
 mod tally;
 
 // Works the call of a line and compares its answer; prints a line that has another form.
+#[tactic(auto, using(crate::proofs::Agreeing::parted, crate::proofs::Agreeing::agreed))]
 fn check<A: Arithmetic>(
     rt: &HostRuntime,
     bench: &mut Bench<A>,
@@ -29,6 +33,7 @@ fn check<A: Arithmetic>(
     line: &str,
 ) -> anyhow::Result<bool>
     requires law { A.lawful arith.old }
+    ensures agrees { IfOk result (λ agrees. IsTrue agrees → Agrees (A.setting arith.old) bench.old line.now) }
     ensures law { A.lawful arith.new }
 {
     if let Some((question, expected)) = line.split_once(" = ")

@@ -10,14 +10,8 @@ use bench::{Bench, check_row};
 use binary64::Binary64;
 use calls::work::{add, ask, examine, withdraw};
 use patterns::Pattern;
-use row::cell::Cell;
+use row::empty;
 use std::io;
-
-const EMPTY: Cell<u64> = Cell {
-    sum: 0,
-    correction: 0,
-    errors: 0,
-};
 
 // 2^900, the largest number (`card` has it too), and 2^901
 const LARGEST: f64 = 8.452712498170644e270;
@@ -117,11 +111,11 @@ fn show(rt: &HostRuntime, outcome: Result<(), Refusal>) -> io::Result<()> {
 
 // Refusals of a bench of highest order 3.
 fn of_order_3(rt: &HostRuntime) -> io::Result<()> {
-    let mut row = [EMPTY; 4];
+    let mut row = [empty(&Binary64); 4];
     let mut bench = Bench::make(&Binary64, &mut row, 1);
     show(rt, added_while_out(&mut bench))?;
     show(rt, added_65(&mut bench))?;
-    let mut row = [EMPTY; 4];
+    let mut row = [empty(&Binary64); 4];
     let mut bench = Bench::make(&Binary64, &mut row, 1);
     show(rt, added(&mut bench, TOO_SMALL))?;
     show(rt, added(&mut bench, f64::INFINITY))?;
@@ -137,9 +131,9 @@ fn of_order_3(rt: &HostRuntime) -> io::Result<()> {
 
 // Refusals of benches of highest order 1, by range.
 fn of_range(rt: &HostRuntime) -> io::Result<()> {
-    let mut row = [EMPTY; 2];
+    let mut row = [empty(&Binary64); 2];
     let mut bench = Bench::make(&Binary64, &mut row, 1);
-    let mut other_row = [EMPTY; 2];
+    let mut other_row = [empty(&Binary64); 2];
     let mut other = Bench::make(&Binary64, &mut other_row, 2);
     show(rt, withdrawn_elsewhere(&mut bench, &mut other))?;
     // the sum of two zeros of 2^900
@@ -154,7 +148,7 @@ fn of_range(rt: &HostRuntime) -> io::Result<()> {
 }
 
 fn main(rt: HostRuntime) -> io::Result<()> {
-    show(&rt, check_row(&[EMPTY; 1]))?;
+    show(&rt, check_row(&[empty(&Binary64); 1]))?;
     of_order_3(&rt)?;
     of_range(&rt)
 }
