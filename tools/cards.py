@@ -37,6 +37,13 @@ ask 3 = R 7
 """,
 }
 
+# a card with a wrong answer
+WRONG = """# a wrong answer, so that a difference is seen to be found
+card binary64 3
+add 3FF0000000000000 = Z 1
+add 4000000000000000 = Z 3
+"""
+
 # cards with known figures: the highest order and the zeros
 FIGURES = {
     "binary64": [
@@ -317,7 +324,7 @@ def marked_line(bench, k, claim, tolerance):
 
 
 def main():
-    text = "# by hand\n" + BY_HAND["binary64"] + BY_HAND["decimal"]
+    text = "# by hand\n" + BY_HAND["binary64"] + BY_HAND["decimal"] + WRONG
     for arith in (Binary64(), Decimal8()):
         text += Dealer(arith).text()
     write(text)

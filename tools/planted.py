@@ -104,7 +104,13 @@ def planted(folder, bug):
     with open(path, "w", encoding="utf-8") as source:
         source.write(text)
     here = text.count("\n", 0, place) + 1
-    heads = [n for n, line in enumerate(text.splitlines(), 1) if re.match(r"\s*(pub(\(crate\))? )?fn ", line)]
+    lines = text.splitlines()
+    heads = []
+    for n, line in enumerate(lines, 1):
+        if re.match(r'\s*(pub(\(crate\))? )?(extern "C" )?fn ', line):
+            while n > 1 and lines[n - 2].lstrip().startswith("#["):
+                n -= 1
+            heads.append(n)
     return max([n for n in heads if n <= here], default=1), min([n for n in heads if n > here], default=10**9)
 
 
@@ -147,11 +153,12 @@ def tried(folder, bugs):
 
 
 def together(bugs):
-    """Parts the bugs of a crate in groups, in each at most one of a function; those of a constant stand alone."""
+    """Parts the bugs of a crate in groups, in each at most one of a function; those of a constant stand alone, and those that the check has to
+    accept apart from the others, since nothing is said of a function without a contract while one that it calls is refused."""
     groups = []
     for bug in bugs:
         alone = not re.search(r"[a-z]", bug.get("in", ""))
-        group = None if alone else next((g for g in groups if not any(x.get("in", "").isupper() or x["in"] == bug["in"] for x in g)), None)
+        group = None if alone else next((g for g in groups if ("same" in g[0]) == ("same" in bug) and not any(x.get("in", "").isupper() or x["in"] == bug["in"] for x in g)), None)
         if group is None:
             groups.append([bug])
         else:
