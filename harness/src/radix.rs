@@ -181,7 +181,7 @@ pub fn lift<R: Radix>(a: Number, m: u8) -> Option<Number> {
     }
     let u = 2 * power::<R>(R::DIGITS - 1);
     // a U as a whole number with many zeros behind, so that the quotient has more digits than are kept
-    let zeros = (127.0 / (R::BASE as f64).log2()) as u32 - count_digits::<R>(a.digits) - count_digits::<R>(u);
+    let zeros = u128::MAX.ilog(R::BASE) - count_digits::<R>(a.digits) - count_digits::<R>(u);
     let divisor = u - m as u128;
     let n = a.digits * u * power::<R>(zeros);
     let result = round::<R>(a.negative, n / divisor, n % divisor != 0, a.exponent - zeros as i32);

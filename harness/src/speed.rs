@@ -211,9 +211,17 @@ pub fn print_decimal_cards(seed: u64) {
     print!("{}", decimal_cards(seed));
 }
 
-/// The microseconds of each card by Python's decimal module, without range tests and with them; the script also compares every value and
-/// bound.
-fn python_times(seed: u64) -> Vec<[f64; 2]> {
+/// The forms of a decimal card beside the proved one, in the order of the script's times.
+const DECIMAL_FORMS: [&str; 4] = [
+    "Python's decimal, without range tests",
+    "Python's decimal, with range tests",
+    "libmpdec from C, without range tests",
+    "libmpdec from C, with range tests",
+];
+
+/// The microseconds of each card by Python's decimal module and by libmpdec from C, where it was found; the script also compares every
+/// value and bound.
+fn python_times(seed: u64) -> Vec<[f64; 4]> {
     let script = concat!(env!("CARGO_MANIFEST_DIR"), "/decimal_cards.py");
     let mut python = Command::new("python3").arg(script).stdin(Stdio::piped()).stdout(Stdio::piped()).spawn().expect("python3");
     python.stdin.take().unwrap().write_all(decimal_cards(seed).as_bytes()).unwrap();
@@ -229,21 +237,28 @@ fn operations(n: usize) -> f64 {
 }
 
 fn measure_decimal(seed: u64, repetitions: usize) {
-    let python = python_times(seed);
-    println!("\nDecimal, a card of n zeros and all orders");
-    let heads = ["microseconds", "ns per operation", "Python's decimal", "ratio", "with range tests", "ratio"];
-    let [time, each, python_head, ratio, tested_head, tested_ratio] = heads;
-    println!("{:>4} {time:>14} {each:>17} {python_head:>18} {ratio:>8} {tested_head:>18} {tested_ratio:>8}", "n");
-    for (n, python) in SIZES.into_iter().zip(python) {
+    let others = python_times(seed);
+    let mut own = vec![];
+    for n in SIZES {
         let zeros = decimal_card(seed, n);
         let mut answers = vec![[0; 2]; n + 1];
         let mut calls: Vec<Box<dyn FnMut(usize)>> = vec![Box::new(|times| {
             proved::cards(Format::Decimal, black_box(&zeros), times, black_box(&mut answers));
         })];
-        let best = shortest(repetitions, 4_000 / (n * n) + 1, &mut calls)[0];
-        let [untested, tested] = python.map(|time| format!("{time:>18.1} {:>8.1}", time * 1000.0 / best));
-        println!("{n:>4} {:>14.2} {:>17.2} {untested} {tested}", best / 1000.0, best / operations(n));
+        own.push(shortest(repetitions, 4_000 / (n * n) + 1, &mut calls)[0] / 1000.0);
     }
+    println!("\nDecimal, a card of n zeros and all orders: microseconds, and as a multiple of the proved bench's time");
+    println!("{:52} {:>19} {:>19} {:>19}", "", "n = 10", "n = 30", "n = 64");
+    let print = |name: &str, times: &[f64]| {
+        let cells: Vec<_> = times.iter().zip(&own).map(|(time, own)| format!("{time:>11.1} {:>7.1}", time / own)).collect();
+        println!("{name:52} {}", cells.join(" "));
+    };
+    print("proved bench", &own);
+    for (form, name) in DECIMAL_FORMS.iter().enumerate() {
+        print(name, &others.iter().map(|times| times[form]).collect::<Vec<_>>());
+    }
+    let each: Vec<_> = SIZES.iter().zip(&own).map(|(&n, own)| format!("{:>11.2}        ", own * 1000.0 / operations(n))).collect();
+    println!("{:52} {}", "proved bench, nanoseconds for an operation", each.join(" "));
 }
 
 /// One operation through `coef_operate`, which admits two patterns and writes two.
