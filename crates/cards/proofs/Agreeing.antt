@@ -20,6 +20,6 @@ use Rattle.cards.specs.Checks.{Agrees}
 pub parted : (p line : List ℕ) (front back : Bor (List ℕ)) → SplitsAroundMatch (FindsText p) line front.now back.now → line ≡ front.now ++ (p ++ back.now)
 parted p line front back h = split_text_parts p line (Some (front, back)) h
 
-pub agreed : {A N P E : Type 0} {g : _} (st : Setting P) (b b' : Bench A N P g) (line question expected : List ℕ) (c : Call) (answer : Answer) (r : Result Bool E) → line ≡ question ++ (codes " = " ++ expected) → Tells (words question) c → Works st b b' (entries c) answer → IfOk r (λ agrees. IsTrue agrees ↔ (answer_text answer ≡ expected)) → IfOk r (λ agrees. IsTrue agrees → Agrees st b line)
-agreed st b b' line question expected c answer (Ok agrees) parting tells works shown = λ yes. (question, expected, c, parting, tells, ap (λ t. t ++ newline) (sym (shown.0 yes)) ∙ works.shown)
+pub agreed : {A N P E : Type 0} {g : _} (st : Setting P) (b b' : Bench A N P g) (line question expected : List ℕ) (c : Call) (answer : Answer) (r : Result Bool E) → line ≡ question ++ (codes " = " ++ expected) → Tells (words question) c → Works st b b' (entries c) answer → IfOk r (λ agrees. IsTrue agrees ↔ (answer_text answer ≡ expected)) → IfOk r (λ agrees. IsTrue agrees → Agrees st b b' line)
+agreed st b b' line question expected c answer (Ok agrees) parting tells works shown = λ yes. (question, expected, c, parting, tells, record { shown = ap (λ t. t ++ newline) (sym (shown.0 yes)) ∙ works.shown; then = works.then; keeps = works.keeps })
 agreed st b b' line question expected c answer (Err e) parting tells works shown = tt

@@ -33,7 +33,7 @@ fn check<A: Arithmetic>(
     line: &str,
 ) -> anyhow::Result<bool>
     requires law { A.lawful arith.old }
-    ensures agrees { IfOk result (λ agrees. IsTrue agrees → Agrees (A.setting arith.old) bench.old line.now) }
+    ensures agrees { IfOk result (λ agrees. IsTrue agrees → Agrees (A.setting arith.old) bench.old bench.new line.now) }
     ensures law { A.lawful arith.new }
 {
     if let Some((question, expected)) = line.split_once(" = ")

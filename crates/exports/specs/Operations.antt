@@ -20,9 +20,12 @@ abbrev pub pattern_of : Meaning → ℤ → ℕ
 pattern_of m z = from_be_bytes w64 (m.pattern z)
 
 -- ---- answers as a caller outside has them
+-- an outcome without a number
 abbrev pub no_number : ℕ → OutsideAnswer
 no_number outcome = record { outcome = outcome; main = 0; error = 0 }
 
+-- 0 with the patterns of what is answered, or with 1 for yes and 0 for no; 4 for a refusal; the number of the cause for which an operand is no
+-- number; 5 for a lift that is not
 abbrev pub outside : Answer → OutsideAnswer
 outside (Number a) = record { outcome = 0; main = from_be_bytes w64 a.bytes; error = 0 }
 outside (Split a b) = record { outcome = 0; main = from_be_bytes w64 a.bytes; error = from_be_bytes w64 b.bytes }

@@ -39,7 +39,7 @@ fn without_number(outcome: u8) -> OutsideAnswer
     }
 }
 
-// The pattern of a number of 64 bits, and the number of a pattern.
+// The pattern that is a number of 64 bits.
 fn pattern(a: u64) -> Pattern
     ensures { result.bytes ≡ to_be_bytes w64 a }
 {
@@ -48,6 +48,7 @@ fn pattern(a: u64) -> Pattern
     }
 }
 
+// The number of 64 bits that is a pattern.
 fn bits(pattern: Pattern) -> u64
     ensures { result ≡ from_be_bytes w64 pattern.bytes }
 {
@@ -81,15 +82,15 @@ impl From<Answer> for OutsideAnswer {
     }
 }
 
-// A number lifted by k, where k is one that numbers are lifted by.
+// A number lifted by k, which may be larger than a byte.
 fn lift_by<A: Arithmetic>(arith: &mut A, a: Pattern, k: u64) -> Answer
     requires law { A.lawful arith.old }
     ensures { result ≡ lift_answer (A.setting arith.old).meaning a k }
 {
-    if k > 192 {
-        return Answer::NotLifted;
+    match u8::try_from(k) {
+        Ok(k) => lift(arith, a, k),
+        Err(_) => Answer::NotLifted,
     }
-    lift(arith, a, k as u8)
 }
 
 // The operation with a number: 1 the split of a + b, 2 that of a b, 3 a lifted by b (here a number and no pattern), 4 what a is admitted
