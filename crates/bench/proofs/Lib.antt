@@ -3,3 +3,4 @@ pub mod Adding
 pub mod Issuing
 pub mod Cells
 pub mod Making
+pub mod Plain

@@ -4,7 +4,7 @@ use Rattle.arithmetic.specs.Setting.{Setting}
 use Rattle.coefficients.specs.Row.{new_row}
 use Rattle.coefficients.specs.Calls.{Making, State, Call, Answer, step}
 use Rattle.coefficients.specs.Law.{CallLaw}
-use Rattle.row.specs.Reading.{readings, plain_cell, Canonical}
+use Rattle.row.specs.Reading.{readings, plain_cell, Canonical, AreCanonical}
 use Rattle.row.specs.declared.cell.Cell.{Cell}
 use Rattle.closing.specs.declared.verdict.Verdict.{Verdict}
 use Rattle.bench.specs.Asking.{marking_step}
@@ -38,12 +38,14 @@ AnswersCall st b b' call answer = Called (making_of st b) (state_of st b) (state
 abbrev pub JudgesCall : {A N P : Type 0} {g : _} → Setting P → Bench A N P g → Call → Result Verdict Refusal → Type 0
 JudgesCall st b call r = Called (making_of st b) (state_of st b) (marking_step (state_of st b) r).then call (marking_step (state_of st b) r).answer
 
--- what every call keeps: what the bench was made with, and the lent row with its length
+-- what every call keeps: what the bench was made with, and the lent row with its length; and a row whose plain cells are all kept as this
+-- arithmetic writes them stays so
 pub record Keeps {A N P : Type 0} {g : _} (st : Setting P) (b b' : Bench A N P g) : Type 0 where
   pub making : making_of st b' ≡ making_of st b
   pub number : b'.number ≡ b.number
   pub long : length b'.row.now ≡ length b.row.now
   pub lender : b'.row.ghost_name ≡ b.row.ghost_name
+  pub plain : AreCanonical st b.row.now → AreCanonical st b'.row.now
 
 -- the plain cells after an addition to the orders 1 to n: all as they were if it is refused; cell 0 and those past n as they were; and
 -- those that it writes kept as the arithmetic writes what they read as

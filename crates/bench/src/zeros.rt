@@ -5,7 +5,7 @@ ghost use Rattle.coefficients.specs.Row.{new_row};
 ghost use Rattle.coefficients.specs.Calls.{new_bench, add as add_call, clear as clear_call};
 ghost use Rattle.coefficients.specs.Book.{accepted};
 ghost use Rattle.coefficients.specs.Law.{BookLaw};
-ghost use Rattle.row.specs.Reading.{plain_cell};
+ghost use Rattle.row.specs.Reading.{plain_cell, AreCanonical};
 ghost use Rattle.bench.specs.Answers.{told_added, told_cleared};
 ghost use Rattle.bench.specs.Benches.{making_of, state_of, AnswersCall, Keeps, AdditionLeaves, ClearingLeaves};
 
@@ -25,6 +25,7 @@ impl<'r, A: Arithmetic> Bench<'r, A> {
         ensures made { making_of (A.setting arith.now) result ≡ record { meaning = (A.setting arith.now).meaning; bench_number = number; K = length row.old - 1 } }
         ensures state { state_of (A.setting arith.now) result ≡ new_bench (making_of (A.setting arith.now) result) }
         ensures cells { result.row.now ≡ map (plain_cell (A.setting arith.now)) (new_row (A.setting arith.now).meaning (length row.old - 1)) }
+        ensures plain { AreCanonical (A.setting arith.now) result.row.now }
         ensures lender { result.row.ghost_name ≡ row.entry.ghost_name }
         ensures book { BookLaw }
     {
@@ -52,7 +53,7 @@ impl<'r, A: Arithmetic> Bench<'r, A> {
     }
 
     // Adds a zero, given by its eight bytes, and answers its number. Refusals: 17, 2, 3, 4, 5.
-    #[tactic(auto, using(crate::proofs::Law::law_at, crate::proofs::Adding::adding))]
+    #[tactic(auto, using(crate::proofs::Law::law_at, crate::proofs::Adding::adding, crate::proofs::Plain::kept_plain))]
     pub fn add(&mut self, arith: &mut A, bytes: &[u8; 8]) -> Result<u8, Refusal>
         requires law { A.lawful arith.old }
         ensures called { AnswersCall (A.setting arith.old) self.old self.new (add_call bytes.now) (told_added result) }

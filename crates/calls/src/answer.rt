@@ -1,8 +1,8 @@
 // What a call answers, refused or not: answers of both kinds are shown and compared alike, so it is no `Result`; `outcome` is one.
 ghost use Rattle.std.specs.Prelude.{◌≡◌, ◌<◌, ◌≤◌, ◌∷◌, ◌++◌, Some, codes, decimal};
 ghost use Rattle.arrayvec.specs.ArrayString.{array_string_len};
+ghost use Rattle.calls.specs.Lines.{answer_text};
 ghost use Rattle.calls.specs.Outcomes.{outcome_of};
-ghost use Rattle.calls.specs.Texts.{answer_text};
 
 use arrayvec::ArrayString;
 use bench::refusal::Refusal;

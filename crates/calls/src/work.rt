@@ -4,7 +4,7 @@ ghost use Rattle.arithmetic.specs.Setting.{Stays};
 ghost use Rattle.coefficients.specs.Calls.{add as add_call, ask as ask_call, clear as clear_call, withdraw as withdraw_call, withdrawn};
 ghost use Rattle.bench.specs.Benches.{AnswersCall, Keeps};
 ghost use Rattle.calls.specs.Entries.{alone, settling, examination, entries};
-ghost use Rattle.calls.specs.Works.{Works};
+ghost use Rattle.calls.specs.Works.{Answers, GoesOn};
 
 use crate::answer::Answer;
 use crate::call::Call;
@@ -14,9 +14,11 @@ use bench::question::{GivenBack, Question};
 use patterns::Pattern;
 
 // Adds a zero.
+#[tactic(auto, using(crate::proofs::Leaving::addition_goes_on))]
 pub fn add<A: Arithmetic>(bench: &mut Bench<'_, A>, arith: &mut A, zero: &[u8; 8]) -> Answer
     requires law { A.lawful arith.old }
-    ensures works { Works (A.setting arith.old) bench.old bench.new (alone (add_call zero.now)) result }
+    ensures answer { Answers (A.setting arith.old) bench.old (alone (add_call zero.now)) result }
+    ensures goes_on { GoesOn (A.setting arith.old) bench.old bench.new (alone (add_call zero.now)) }
     ensures counts { bench.new.out ≡ bench.old.out }
     ensures arith { Stays A.setting A.lawful arith.old arith.new }
 {
@@ -27,9 +29,11 @@ pub fn add<A: Arithmetic>(bench: &mut Bench<'_, A>, arith: &mut A, zero: &[u8; 8
 }
 
 // Asks an order.
+#[tactic(auto, using(crate::proofs::Leaving::same_left))]
 pub fn ask<A: Arithmetic>(bench: &Bench<'_, A>, arith: &mut A, order: u8) -> Answer
     requires law { A.lawful arith.old }
-    ensures works { Works (A.setting arith.old) bench.now bench.now (alone (ask_call order)) result }
+    ensures answer { Answers (A.setting arith.old) bench.now (alone (ask_call order)) result }
+    ensures goes_on { GoesOn (A.setting arith.old) bench.now bench.now (alone (ask_call order)) }
     ensures arith { Stays A.setting A.lawful arith.old arith.new }
 {
     match bench.ask(arith, order) {
@@ -47,9 +51,11 @@ pub fn ask<A: Arithmetic>(bench: &Bench<'_, A>, arith: &mut A, order: u8) -> Ans
 }
 
 // Clears the bench.
+#[tactic(auto, using(crate::proofs::Leaving::clearing_left))]
 pub fn clear<A: Arithmetic>(bench: &mut Bench<'_, A>, arith: &A) -> Answer
     requires law { A.lawful arith.now }
-    ensures { Works (A.setting arith.now) bench.old bench.new (alone clear_call) result }
+    ensures answer { Answers (A.setting arith.now) bench.old (alone clear_call) result }
+    ensures goes_on { GoesOn (A.setting arith.now) bench.old bench.new (alone clear_call) }
 {
     match bench.clear(arith) {
         Ok(()) => Answer::Cleared,
@@ -64,6 +70,7 @@ pub fn withdraw<A: Arithmetic>(bench: &mut Bench<'_, A>, arith: &A, question: Qu
     requires out { 0 < bench.old.out }
     ensures called { AnswersCall (A.setting arith.now) bench.old bench.new (withdraw_call question.bench question.order) withdrawn }
     ensures keeps { Keeps (A.setting arith.now) bench.old bench.new }
+    ensures cells { bench.new.row.now ≡ bench.old.row.now }
     ensures counts { bench.new.out + 1 ≡ bench.old.out }
 {
     match bench.withdraw(arith, question) {
@@ -73,6 +80,7 @@ pub fn withdraw<A: Arithmetic>(bench: &mut Bench<'_, A>, arith: &A, question: Qu
 }
 
 // Marks a claim by a question of this bench; where the marking is refused, the question is withdrawn.
+#[tactic(auto, using(crate::proofs::Leaving::same_left))]
 fn settle<A: Arithmetic>(
     bench: &mut Bench<'_, A>,
     arith: &mut A,
@@ -83,7 +91,9 @@ fn settle<A: Arithmetic>(
     requires law { A.lawful arith.old }
     requires own { question.bench ≡ bench.old.number }
     requires out { 0 < bench.old.out }
-    ensures works { Works (A.setting arith.old) bench.old bench.new (settling question.order claim.now tolerance.now) result }
+    ensures answer { Answers (A.setting arith.old) bench.old (settling question.order claim.now tolerance.now) result }
+    ensures goes_on { GoesOn (A.setting arith.old) bench.old bench.new (settling question.order claim.now tolerance.now) }
+    ensures cells { bench.new.row.now ≡ bench.old.row.now }
     ensures arith { Stays A.setting A.lawful arith.old arith.new }
 {
     let order = question.order();
@@ -98,6 +108,7 @@ fn settle<A: Arithmetic>(
 }
 
 // Issues a question of an order, and marks a claim by it.
+#[tactic(auto, using(crate::proofs::Leaving::same_left))]
 pub fn examine<A: Arithmetic>(
     bench: &mut Bench<'_, A>,
     arith: &mut A,
@@ -106,7 +117,8 @@ pub fn examine<A: Arithmetic>(
     tolerance: &[u8; 8],
 ) -> Answer
     requires law { A.lawful arith.old }
-    ensures works { Works (A.setting arith.old) bench.old bench.new (examination order claim.now tolerance.now) result }
+    ensures answer { Answers (A.setting arith.old) bench.old (examination order claim.now tolerance.now) result }
+    ensures goes_on { GoesOn (A.setting arith.old) bench.old bench.new (examination order claim.now tolerance.now) }
     ensures arith { Stays A.setting A.lawful arith.old arith.new }
 {
     match bench.issue(arith, order) {
@@ -118,7 +130,8 @@ pub fn examine<A: Arithmetic>(
 // Works a call.
 pub fn work<A: Arithmetic>(bench: &mut Bench<'_, A>, arith: &mut A, call: Call) -> Answer
     requires law { A.lawful arith.old }
-    ensures works { Works (A.setting arith.old) bench.old bench.new (entries call) result }
+    ensures answer { Answers (A.setting arith.old) bench.old (entries call) result }
+    ensures goes_on { GoesOn (A.setting arith.old) bench.old bench.new (entries call) }
     ensures arith { Stays A.setting A.lawful arith.old arith.new }
 {
     match call {

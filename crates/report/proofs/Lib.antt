@@ -1,4 +1,4 @@
-pub mod Turns
+pub mod Workings
 pub mod Slips
 pub mod Loop
 pub mod TheLaw

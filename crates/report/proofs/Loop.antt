@@ -11,7 +11,7 @@ use Rattle.calls.specs.Lines.{lines}
 use Rattle.sheet.specs.Contents.{Contents}
 use Rattle.sheet.specs.Layout.{Reading, ended, reads, faulty, reading}
 use Rattle.sheet.specs.declared.fault.SheetFault.{SheetFault}
-use Rattle.report.specs.Book.{book_of}
+use Rattle.slips.specs.Book.{book_of}
 use Rattle.report.specs.Steps.{ReportState, ReportAnswer, lines_answered, is_slip, step_by_reading, ending_by}
 use Rattle.report.specs.Calls.{told_kept, report_state, next_reading, slip_step, Answers}
 use Rattle.report.specs.declared.report.Report.{Report}

@@ -9,9 +9,9 @@ use Rattle.calls.specs.Lines.{lines}
 use Rattle.sheet.specs.Layout.{Reading, ended, reads, faulty, reading}
 use Rattle.sheet.specs.Contents.{Contents, contents_from, contents}
 use Rattle.sheet.specs.Contents.{by_reading as contents_by_reading}
-use Rattle.report.specs.Book.{slip_entries, book_of}
+use Rattle.slips.specs.Book.{slip_entries, book_of}
 use Rattle.report.specs.Steps.{ReportState, ReportStep, lines_answered, is_slip, step_by_reading, ending_by}
-use Rattle.report.proofs.Turns.{lines_append}
+use Rattle.slips.proofs.Turns.{lines_append}
 
 pub appends_on : (old now new : Option (List ℕ)) (t u : List ℕ) → Appends old now t → Appends now new u → Appends old new (t ++ u)
 appends_on None now new t u p q = tt

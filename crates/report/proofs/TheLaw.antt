@@ -14,7 +14,7 @@ use Rattle.sheet.specs.declared.format.Format.TheVariants.{Binary64, Decimal}
 use Rattle.sheet.specs.Layout.{Field, Task, asks, examines, Slip, Opening, opened, refused, opening}
 use Rattle.sheet.specs.Contents.{contents}
 use Rattle.sheet.proofs.Readings.{is_whole}
-use Rattle.report.specs.Book.{order_in, task_entries, entries_by, slip_entries, book_of}
+use Rattle.slips.specs.Book.{order_in, task_entries, entries_by, slip_entries, book_of}
 use Rattle.report.specs.Law.{LinesHold, SheetHolds, law_by_header, ReportLaw}
 use Rattle.report.specs.Text.{making}
 

@@ -1,5 +1,5 @@
-pub mod Book
 pub mod Text
+pub mod Workings
 pub mod Steps
 pub mod Calls
 pub mod Report

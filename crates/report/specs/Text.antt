@@ -7,7 +7,7 @@ use Rattle.bench.specs.Refusals.{detail_text}
 use Rattle.calls.specs.Lines.{newline, lines}
 use Rattle.sheet.specs.Layout.{Fault}
 use Rattle.sheet.specs.Contents.{Ending, whole, broken, Contents, contents}
-use Rattle.report.specs.Book.{book_of}
+use Rattle.slips.specs.Book.{book_of}
 
 abbrev pub cause_text : Option ℕ → List ℕ
 cause_text None = []

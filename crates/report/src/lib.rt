@@ -7,5 +7,4 @@ pub use whole::{report_input, report_sheet};
 mod lines;
 pub mod refusal;
 pub mod report;
-mod slip;
 pub mod whole;

@@ -1,17 +1,19 @@
 // The lines of a report, as texts of a fixed capacity.
 ghost use Rattle.std.specs.Prelude.{◌≡◌, ◌+◌, ◌<◌, ◌≤◌, ◌++◌, length, drop};
 ghost use Rattle.arrayvec.specs.ArrayString.{array_string_len};
-ghost use Rattle.calls.specs.Lines.{newline};
-ghost use Rattle.calls.specs.Texts.{answer_text};
+ghost use Rattle.calls.specs.Lines.{newline, answer_text};
 ghost use Rattle.sheet.specs.Contents.{whole};
 ghost use Rattle.sheet.specs.Faults.{told_fault};
 ghost use Rattle.report.specs.Text.{fault_line, ending_line};
+ghost use Rattle.report.specs.Workings.{working_text};
+ghost use Rattle.slips.specs.Workings.{told_worked, IsAnswered};
 
 use arrayvec::ArrayString;
 use bench::refusal::push_detail;
 use calls::answer::Answer;
 use itoa::Buffer;
 use sheet::fault::SheetFault;
+use slips::worked::Worked;
 
 // How many bytes a report call asks of a line buffer. A slip has at most two lines; as texts they have at most 48 bytes each.
 pub(crate) const LEAST_BUFFER: usize = 128;
@@ -20,7 +22,7 @@ pub(crate) const LEAST_BUFFER: usize = 128;
 pub(crate) type Lines = ArrayString<LEAST_BUFFER>;
 
 // Appends the line of an answer.
-pub(crate) fn push_answer(lines: &mut Lines, answer: Answer)
+fn push_answer(lines: &mut Lines, answer: Answer)
     requires { array_string_len lines.old + 48 ≤ 128 }
     ensures line { lines.new.bytes ≡ lines.old.bytes ++ (answer_text answer ++ newline) }
     ensures room { array_string_len lines.new ≤ array_string_len lines.old + 48 }
@@ -28,6 +30,22 @@ pub(crate) fn push_answer(lines: &mut Lines, answer: Answer)
 {
     lines.push_str(answer.text().as_str());
     lines.push('\n');
+}
+
+// The lines of what the calls of a slip answered.
+pub(crate) fn lines_of(worked: Worked) -> Lines
+    requires { IsAnswered worked }
+    ensures lines { result.bytes ≡ working_text (told_worked worked) }
+    ensures some { 0 < array_string_len result }
+{
+    let mut lines = Lines::new();
+    if let Some(answer) = worked.zero {
+        push_answer(&mut lines, answer);
+    }
+    if let Some(answer) = worked.task {
+        push_answer(&mut lines, answer);
+    }
+    lines
 }
 
 // The line of a fault.

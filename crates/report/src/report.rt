@@ -1,21 +1,22 @@
 // Reporting a sheet slip by slip.
 ghost use Rattle.std.specs.Prelude.{◌≡◌, ◌≤◌, length, None, IsOk, IfOk, OnErr, ◌↔◌};
 ghost use Rattle.arithmetic.specs.Setting.{Stays};
-ghost use Rattle.bench.specs.Benches.{Keeps};
+ghost use Rattle.bench.specs.Benches.{making_of, Keeps};
+ghost use Rattle.calls.specs.Cells.{Leaves};
 ghost use Rattle.sheet.specs.Layout.{ended, reading};
 ghost use Rattle.sheet.specs.Reading.{told_reading, Moved};
 ghost use Rattle.report.specs.Steps.{ending_by};
 ghost use Rattle.report.specs.Text.{ending_line};
 ghost use Rattle.report.specs.Calls.{told_kept, report_state, step_of, Answers, KeepsFault, Written};
 
-use crate::lines::{LEAST_BUFFER, line_of_end, line_of_fault, write};
+use crate::lines::{LEAST_BUFFER, line_of_end, line_of_fault, lines_of, write};
 use crate::refusal::{SmallBuffer, Unreported};
-use crate::slip::work_slip;
 use arithmetic::Arithmetic;
 use bench::Bench;
 use sheet::fault::SheetFault;
 use sheet::slip::Slip;
 use sheet::{Reader, Sheet};
+use slips::work::work_slip;
 
 // Where the report of a sheet stands: the reader of its slips, and the fault that was met, if one was.
 #[derive(Drop)]
@@ -64,6 +65,7 @@ impl<'s> Report<'s> {
     // Reports the next slip, if the line buffer has 128 bytes: works it on the bench, writes its lines at the start of the buffer and
     // answers their length, 0 at the sheet's end. Where a fault is met, or was met before, nothing is written, and nothing changes but
     // that the fault is kept.
+    #[tactic(auto, using(crate::proofs::Workings::slip_text))]
     pub fn next_slip<A: Arithmetic>(
         &mut self,
         bench: &mut Bench<'_, A>,
@@ -75,6 +77,7 @@ impl<'s> Report<'s> {
         ensures then { report_state (A.setting arith.old) self.new bench.new ≡ (step_of (A.setting arith.old) self.old bench.old (length buffer.old)).then }
         ensures some { IfOk result (λ n. n ≡ 0 → reading (A.setting arith.old).meaning self.old.reader.bytes.now self.old.reader.at self.old.reader.slips ≡ ended) }
         ensures bytes { self.new.reader.bytes.now ≡ self.old.reader.bytes.now }
+        ensures cells { Leaves (making_of (A.setting arith.old) bench.old).K (step_of (A.setting arith.old) self.old bench.old (length buffer.old)).entries bench.old.row.now bench.new.row.now }
         ensures keeps { Keeps (A.setting arith.old) bench.old bench.new }
         ensures arith { Stays A.setting A.lawful arith.old arith.new }
     {
@@ -85,7 +88,7 @@ impl<'s> Report<'s> {
         let Some(slip) = self.read(arith)? else {
             return Ok(0);
         };
-        let lines = work_slip(bench, arith, slip);
+        let lines = lines_of(work_slip(bench, arith, slip));
         Ok(write(buffer, lines.as_str()))
     }
 

@@ -5,7 +5,7 @@ ghost use Rattle.arithmetic.specs.Setting.{Stays};
 ghost use Rattle.bench.specs.Benches.{making_of, state_of, Keeps};
 ghost use Rattle.calls.specs.Lines.{lines};
 ghost use Rattle.sheet.specs.Contents.{contents};
-ghost use Rattle.report.specs.Book.{book_of};
+ghost use Rattle.slips.specs.Book.{book_of};
 ghost use Rattle.report.specs.Report.{report};
 ghost use Rattle.report.specs.Text.{ending_line, text_from, text};
 ghost use Rattle.report.specs.Law.{ReportLaw};

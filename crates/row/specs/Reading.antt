@@ -30,3 +30,7 @@ plain_cell st v = record { sum = st.plain v.S; correction = st.plain v.C; errors
 -- a cell is kept as the arithmetic writes what it reads as
 abbrev pub Canonical : {P : Type 0} → Setting P → Cell P → Type 0
 Canonical st c = c ≡ plain_cell st (reading st c)
+
+-- every cell of a row is kept so
+abbrev pub AreCanonical : {P : Type 0} → Setting P → List (Cell P) → Type 0
+AreCanonical st row = row ≡ map (plain_cell st) (readings st row)
