@@ -4,3 +4,4 @@ pub mod Answers
 pub mod RadixRules
 pub mod Formats
 pub mod Mains
+pub mod Bytes

@@ -6,6 +6,7 @@
 -- k · half · B^(q−p) units, since U is 2 · B^(p−1) and the radix is 2 · half; as k · half is below B^p, it has p digits.
 use Rattle.std.proofs.Common.{◌≡◌, ℕ, ◌-◌, ◌*◌, ◌/◌, ◌^◌, ◌<◌, ◌≤◌, ◌&&◌, T, eqb, leb, ◌⊎◌, List, length, ℤ, pos, ◌+ℤ◌, ◌-ℤ◌, ◌*ℤ◌, neg_ℤ, nat_abs, sym, refl, ap, ◌∙◌, subst, inl, inr, ⊎_elim, le_trans, le_refl, lt_of_le_of_lt, mul-le-mul_right, add-sub_of_le, mul-pos, one-mul, le_of_mul-le-mul_right, mul-div_cancel, arith, eqb→eq, leb→le, pow-add}
 use mathlib.Core.Option.{some}
+use Rattle.std.specs.List.{All}
 use lib.IntN.{*ℤ_comm}
 use lib.Signed.{quot_z}
 use Rattle.std.proofs.lemmas.Int.{ints}
@@ -185,8 +186,9 @@ module _ (B p q low high : ℕ) (admit : List ℕ → Admission) (pattern : ℤ 
       small : units k ≤ Q
       small = le_of_mul-le-mul_right {k = U} (omega (arith, grain_shape k, mul-le-mul_right Q h, mul-le-mul_right Q L.fine)) (omega arith)
 
-  pub radix_rules : ((bytes : List ℕ) (a : ℤ) → admit bytes ≡ number a → Number m a) → ((a : ℤ) → Number m a → admit (pattern a) ≡ number a) → ((a : ℤ) → length (pattern a) ≡ 8) → Rules m
-  radix_rules admitted written eight = record {
+  pub radix_rules : ((bytes : List ℕ) (a : ℤ) → admit bytes ≡ number a → Number m a) → ((a : ℤ) → Number m a → admit (pattern a) ≡ number a) → ((a : ℤ) → length (pattern a) ≡ 8)
+      → ((a : ℤ) → All (λ x. x < 256) (pattern a)) → Rules m
+  radix_rules admitted written eight bytes = record {
     some_scale = some_Q;
     fine = L.fine;
     low_above_zero = omega (arith, large low (le_refl low));
@@ -207,4 +209,5 @@ module _ (B p q low high : ℕ) (admit : List ℕ → Admission) (pattern : ℤ 
     admitted_is_number = admitted;
     pattern_is_admitted = written;
     pattern_is_eight = eight;
+    pattern_is_bytes = bytes;
   }

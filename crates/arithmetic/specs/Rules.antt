@@ -1,6 +1,6 @@
 -- The rules that an arithmetic must show. That an answer depends on the operands alone is no field: every operation is a
 -- function of them.
-use Rattle.std.specs.Prelude.{◌≡◌, ℕ, ◌-◌, ◌*◌, ◌<◌, ◌≤◌, List, length, ℤ, pos, ◌+ℤ◌, ◌-ℤ◌, ◌*ℤ◌, neg_ℤ, unsigned_abs}
+use Rattle.std.specs.Prelude.{◌≡◌, ℕ, ◌-◌, ◌*◌, ◌<◌, ◌≤◌, List, All, length, ℤ, pos, ◌+ℤ◌, ◌-ℤ◌, ◌*ℤ◌, neg_ℤ, unsigned_abs}
 use Rattle.std.proofs.Math.Option.{some}
 use Rattle.arithmetic.specs.Meaning.{Meaning, Number, number}
 use Rattle.arithmetic.specs.Operations.{sum, product, lift, grain, sum_error, product_error}
@@ -37,3 +37,4 @@ pub record Rules (m : Meaning) : Type 0 where
   pub admitted_is_number : (bytes : List ℕ) (a : ℤ) → m.admit bytes ≡ number a → Number m a
   pub pattern_is_admitted : (a : ℤ) → Number m a → m.admit (m.pattern a) ≡ number a
   pub pattern_is_eight : (a : ℤ) → length (m.pattern a) ≡ 8
+  pub pattern_is_bytes : (a : ℤ) → All (λ x. x < 256) (m.pattern a)

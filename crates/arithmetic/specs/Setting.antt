@@ -1,6 +1,6 @@
 -- An arithmetic as the code holds it: its meaning, and the plain values that it keeps in cells. Then what the answers of the
 -- code say, as answers of the definitions.
-use Rattle.std.specs.Prelude.{◌≡◌, ℤ, Some, None, Ok, Err, Option, Result}
+use Rattle.std.specs.Prelude.{◌≡◌, ◌⊎◌, ℤ, pos, Some, None, Ok, Err, Option, Result}
 use Rattle.std.proofs.Math.Option.{Option as Maybe, none, some}
 use Rattle.arithmetic.specs.Meaning.{Meaning, Number, Admission, number, not_admitted}
 use Rattle.arithmetic.specs.Operations.{Split}
@@ -14,6 +14,11 @@ pub record Setting (P : Type 0) : Type 0 where
   pub reads : P → ℤ
   -- the plain value of a number
   pub plain : ℤ → P
+
+-- What a plain value reads as is 0, or it is the plain value of that number. So a plain value that is none of those that the
+-- arithmetic writes reads as 0.
+abbrev pub ZeroOrWritten : {P : Type 0} → Setting P → P → Type 0
+ZeroOrWritten st p = (st.reads p ≡ pos 0) ⊎ (st.plain (st.reads p) ≡ p)
 
 -- ---- answers of the code, by the values of the numbers in them
 abbrev pub valued : {N : Type 0} → (N → ℤ) → Option N → Maybe ℤ

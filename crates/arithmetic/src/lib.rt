@@ -5,7 +5,7 @@ ghost use Rattle.std.specs.Prelude.{◌≡◌, ◌≤◌, ℤ, pos, neg_ℤ, int
 ghost use Rattle.arithmetic.specs.Meaning.{Number as IsNumber};
 ghost use Rattle.arithmetic.specs.Operations.{in_limits, sum as rounded_sum, product as rounded_product, sum_split, product_split, lift as lifted, grain as grain_of, size as size_of};
 ghost use Rattle.arithmetic.specs.Rules.{Rules};
-ghost use Rattle.arithmetic.specs.Setting.{Setting, Rounds, Splits, Admits, admission};
+ghost use Rattle.arithmetic.specs.Setting.{Setting, ZeroOrWritten, Rounds, Splits, Admits, admission};
 
 use cause::Cause;
 
@@ -150,4 +150,7 @@ pub trait Arithmetic: Sized {
         ensures { result ≡ (setting self.now).meaning.pattern (value a) };
 
     ghost rules: { (s : Self) → lawful s → Rules (setting s).meaning };
+
+    // a plain value that is none of those that the arithmetic writes reads as 0
+    ghost plain_values: { (s : Self) → lawful s → (p : Self.Plain) → ZeroOrWritten (setting s) p };
 }

@@ -18,14 +18,14 @@ bits_small b w h = (bits_fine b w h).2
 pub ruleset finite_bits = (no_nan_bits, bits_finite, bits_small)
 
 pub bits_read : (b : ℕ) → b < 18446744073709551616 → b % sign_bit ≤ high_pattern → reads b ≡ value binary64 (of_bits binary64 b)
-bits_read b w h = sym (reads_number b _ (bits_yes b w h))
+bits_read b w h = sym (reads_number b w _ (bits_yes b w h))
 
 pub bits_none : (b : ℕ) → b < 18446744073709551616 → high_pattern < b % sign_bit → reads b ≡ pos 0
 bits_none b w h = go (dec_le infinity_pattern (b % sign_bit))
   where
     go : Dec (infinity_pattern ≤ b % sign_bit) → reads b ≡ pos 0
-    go (yes l) = sym (reads_none b 1 (bits_infinite b l))
-    go (no l) = sym (reads_none b 2 (bits_large b w h (omega arith)))
+    go (yes l) = sym (reads_none b w 1 (bits_infinite b l))
+    go (no l) = sym (reads_none b w 2 (bits_large b w h (omega arith)))
 
 pub ruleset readings = (finite_bits, bits_read, bits_none)
 

@@ -10,3 +10,4 @@ pub mod BitLimits
 pub mod BitOrder
 pub mod Written
 pub mod SumAnswers
+pub mod PlainValues

@@ -1,6 +1,6 @@
 -- Binary64 numbers as 64 bits and as eight bytes, by the fields of the format: the sign, 11 bits of exponent, 52 bits of fraction.
 -- Values are whole units of 2^-1074.
-use Rattle.std.specs.Prelude.{ℕ, suc, ◌+◌, ◌-◌, ◌*◌, ◌/◌, ◌%◌, ◌^◌, Bool, cond, List, [], ◌∷◌, ℤ, pos, negsuc, ◌==◌, nat_le, slice_index}
+use Rattle.std.specs.Prelude.{ℕ, suc, ◌+◌, ◌-◌, ◌*◌, ◌/◌, ◌%◌, ◌^◌, Bool, cond, List, [], ◌∷◌, ℤ, pos, negsuc, ◌==◌, nat_le, nat_lt, slice_index}
 use Rattle.rounding.specs.Radix.{exponent as least_exponent}
 use Rattle.rounding.specs.Value.{signed}
 use Rattle.arithmetic.specs.Meaning.{Meaning, Admission, number, not_admitted}
@@ -34,9 +34,9 @@ admission b =
     cond (exponent b == 2047) (not_admitted 1)
     (cond (nat_le (size b) (2 ^ reach)) (number (signed (negative b) (size b))) (not_admitted 2))
 
--- what a bit pattern in a cell reads as: 0 where it is not admitted
+-- what a bit pattern in a cell reads as: 0 where it is not admitted, and where it has more than 64 bits, as none in a cell has
 unfoldable pub reads : ℕ → ℤ
-reads b = elim (admission b) [ number z ↦ z | not_admitted c ↦ pos 0 ]
+reads b = cond (nat_lt b (2 ^ 64)) (elim (admission b) [ number z ↦ z | not_admitted c ↦ pos 0 ]) (pos 0)
 
 -- ---- the one bit pattern of a number
 -- n units, without the sign: with the least e for which n is below 2^53 · 2^e, the significand is n / 2^e. Its leading 1, if any,

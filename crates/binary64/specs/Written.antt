@@ -134,11 +134,11 @@ below_power (suc n) = subst (λ (x : ℕ). suc n < x) (sym (pow-succ' 2 n)) (dou
     double : (x : ℕ) → n < x → suc n < 2 * x
     double x h = omega arith
 
-unsigned_is : (n : ℕ) → unsigned n ≡ code 53 n
+pub unsigned_is : (n : ℕ) → unsigned n ≡ code 53 n
 unfolding unsigned
 unsigned_is n = ap (λ (e : ℕ). e * 2 ^ 52 + n / 2 ^ e) (exponent_size 53 n n (le_trans (below_power n) (pow_mono {i = n} {j = 53 + n} (omega arith))))
 
-bits_signed : (x : Float) (s : Bool) (g c : ℕ) → HasValue x s g c → to_bits binary64 x ≡ cond s (top binary64) 0 + code 53 (magnitude binary64 x)
+pub bits_signed : (x : Float) (s : Bool) (g c : ℕ) → HasValue x s g c → to_bits binary64 x ≡ cond s (top binary64) 0 + code 53 (magnitude binary64 x)
 bits_signed nan s g c h = absurd h
 bits_signed (inf t) s g c h = absurd h
 bits_signed (fin t m e) s g c h =
@@ -164,6 +164,9 @@ module _ (x : Float) (X : Fine binary64 reach x) where
   abbrev sum_zero : Float
   sum_zero = add binary64 x (of_bits binary64 0)
 
+  sum_fits : T (fits binary64 sum_zero)
+  sum_fits = add-fits binary64 x (of_bits binary64 0)
+
   plain_is : sum_zero ≡ float_of (value binary64 x)
   plain_is = ap (add binary64 x) nil_is ∙ plus_zero x (held binary64 x X.0 X.1)
 
@@ -183,8 +186,8 @@ module _ (x : Float) (X : Fine binary64 reach x) where
 
   pub plain_back : reads (to_bits binary64 sum_zero) ≡ value binary64 x
   plain_back =
-      sym (reads_number (to_bits binary64 sum_zero) (value binary64 sum_zero) (own_admission sum_zero
-      (add-fits binary64 x (of_bits binary64 0), plain_finite, small_of binary64 least reach meaning means sum_zero (subst (λ (z : ℤ). unsigned_abs z ≤ meaning.high) (sym plain_value) (at_most binary64 least reach meaning means x X.2)))))
+      sym (reads_number (to_bits binary64 sum_zero) (to_bits-lt binary64 sum_zero sum_fits) (value binary64 sum_zero) (own_admission sum_zero
+      (sum_fits, plain_finite, small_of binary64 least reach meaning means sum_zero (subst (λ (z : ℤ). unsigned_abs z ≤ meaning.high) (sym plain_value) (at_most binary64 least reach meaning means x X.2)))))
       ∙ plain_value
 
 -- ---- the pattern of any number

@@ -4,6 +4,7 @@
 ghost use Rattle.binary64.specs.Patterns.{setting as setting_of};
 ghost use Rattle.binary64.specs.Doubles.{units};
 ghost use Rattle.binary64.specs.TheRules;
+ghost use Rattle.binary64.specs.PlainValues;
 
 use crate::double::Double;
 use arithmetic::Arithmetic;
@@ -34,6 +35,8 @@ impl Arithmetic for Binary64 {
     ghost lawful = { λ _. Unit {0} };
 
     ghost rules = { λ s h. TheRules.rules };
+
+    ghost plain_values = { λ s h p. PlainValues.zero_or_written p };
 
     fn split_sum(&mut self, a: Double, b: Double) -> Option<(Double, Double)> {
         sums::split_sum(a, b)

@@ -5,6 +5,7 @@ ghost use Rattle.std.specs.Prelude.{◌≡◌};
 ghost use Rattle.scientific.specs.Patterns.{setting as setting_of};
 ghost use Rattle.scientific.specs.Numbers.{units};
 ghost use Rattle.scientific.proofs.TheRules;
+ghost use Rattle.scientific.proofs.PlainValues;
 
 use arithmetic::Arithmetic;
 use arithmetic::cause::Cause;
@@ -41,6 +42,8 @@ impl Arithmetic for Decimal {
     ghost lawful = { λ _. Unit {0} };
 
     ghost rules = { λ s h. TheRules.rules s.precision };
+
+    ghost plain_values = { λ s h p. PlainValues.zero_or_written s.precision p };
 
     #[inline(always)]
     fn split_sum(&mut self, a: Scientific, b: Scientific) -> Option<(Scientific, Scientific)> {

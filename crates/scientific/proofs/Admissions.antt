@@ -93,7 +93,7 @@ unfolding admission
 admission_out d M e h l = ap (λ (t : Bool). cond t (cond (leb (nat_abs (units_of M e)) highest) (number (units_of M e)) (not_admitted 2)) (not_admitted 3)) (sym (form_not d M e h l))
 
 -- ---- what is admitted is a number
-few_digits : (d m k : ℕ) → is_form d m k ≡ true → m < 10 ^ d
+pub few_digits : (d m k : ℕ) → is_form d m k ≡ true → m < 10 ^ d
 few_digits d m k f = small m (10 ^ d) (10 ^ (d - 1)) k (some_ten d) f
   where
     small : (m L H k : ℕ) → 0 < L → cond (eqb m 0) (eqb k 70) (ltb m L && (eqb k 0 || leb H m)) ≡ true → m < L
@@ -102,10 +102,18 @@ few_digits d m k f = small m (10 ^ d) (10 ^ (d - 1)) k (some_ten d) f
 formed_number : (d : ℕ) (M : ℤ) (k : ℕ) → 1 ≤ d → is_form d (nat_abs M) k ≡ true → nat_abs M * 10 ^ k ≤ highest → Number (meaning d) (M *ℤ pos (10 ^ k))
 formed_number d M k h f s = number_of d (M *ℤ pos (10 ^ k)) h (record { m = nat_abs M; e = k; is = abs_mul M (pos (10 ^ k)); few = few_digits d (nat_abs M) k f }) (rw (abs_mul M (pos (10 ^ k))) s)
 
-pub admission_number : (d : ℕ) (M e a : ℤ) → 1 ≤ d → d ≤ 8 → admission d M e ≡ number a → Number (meaning d) a
-admission_number d M e a h l q = go (from_to (negsuc 69) (pos (41 - d)) e) refl
+-- M and e that are admitted as a: in their one form with k zeros, and small
+pub record Admitted (d : ℕ) (M e a : ℤ) : Type 0 where
+  pub k : ℕ
+  pub behind : e ≡ pos k -ℤ pos 70
+  pub form : is_form d (nat_abs M) k ≡ true
+  pub small : nat_abs M * 10 ^ k ≤ highest
+  pub is : M *ℤ pos (10 ^ k) ≡ a
+
+pub admitted_by : (d : ℕ) (M e a : ℤ) → d ≤ 8 → admission d M e ≡ number a → Admitted d M e a
+admitted_by d M e a l q = go (from_to (negsuc 69) (pos (41 - d)) e) refl
   where
-    go : (t : Bool) → from_to (negsuc 69) (pos (41 - d)) e ≡ t → Number (meaning d) a
+    go : (t : Bool) → from_to (negsuc 69) (pos (41 - d)) e ≡ t → Admitted d M e a
     go false n = let z : ◌≡◌ {A = ℕ} 0 1 = cc (admission_out d M e l n) in absurd (omega arith)
     go true n = formed (is_form d (nat_abs M) x.k) (leb (nat_abs M * 10 ^ x.k) highest) refl refl
       where
@@ -115,10 +123,13 @@ admission_number d M e a h l q = go (from_to (negsuc 69) (pos (41 - d)) e) refl
         at : admission d M (pos x.k -ℤ pos 70) ≡ number a
         at = ap (admission d M) (sym x.is) ∙ q
 
-        formed : (t u : Bool) → is_form d (nat_abs M) x.k ≡ t → leb (nat_abs M * 10 ^ x.k) highest ≡ u → Number (meaning d) a
+        formed : (t u : Bool) → is_form d (nat_abs M) x.k ≡ t → leb (nat_abs M * 10 ^ x.k) highest ≡ u → Admitted d M e a
         formed false u f s = let o = admission_other d M x.k l x.few f in let z : ◌≡◌ {A = ℕ} 0 1 = cc (at, o) in absurd (omega arith)
         formed true false f s = let o = admission_large d M x.k l x.few f (leb-false _ _ s) in let z : ◌≡◌ {A = ℕ} 0 1 = cc (at, o) in absurd (omega arith)
-        formed true true f s = let y = admission_yes d M x.k l x.few f (leb-true _ _ s) in let v : M *ℤ pos (10 ^ x.k) ≡ a = cc (at, y) in subst (Number (meaning d)) v (formed_number d M x.k h f (leb-true _ _ s))
+        formed true true f s = let y = admission_yes d M x.k l x.few f (leb-true _ _ s) in record { k = x.k; behind = x.is; form = f; small = leb-true _ _ s; is = cc (at, y) }
+
+pub admission_number : (d : ℕ) (M e a : ℤ) → 1 ≤ d → d ≤ 8 → admission d M e ≡ number a → Number (meaning d) a
+admission_number d M e a h l q = let t = admitted_by d M e a l q in subst (Number (meaning d)) t.is (formed_number d M t.k h t.form t.small)
 
 -- ---- reading
 reads_by : (d : ℕ) (w : Written) (a : Admission) → a ≡ admission d w.m w.e → elim a [ number z ↦ z | not_admitted c ↦ pos 0 ] ≡ reads d w

@@ -1,10 +1,12 @@
 -- Eight bytes and back: what is taken apart into bytes is put together again, and two's complement of an integer that is small
 -- enough stands for that integer. So the pattern of a number is admitted as the number.
-use Rattle.std.proofs.Common.{◌≡◌, ℕ, ◌+◌, ◌-◌, ◌*◌, ◌/◌, ◌%◌, ◌^◌, ◌<◌, ◌≤◌, Bool, true, false, cond, ◌&&◌, eqb, List, length, get_or, ℤ, pos, negsuc, ◌-ℤ◌, nat_abs, sym, refl, ap, ◌∙◌, lt_of_lt_of_le, div-add-mod', arith, lit≤, w16, w32, SFits, to_z, of_z}
+use Rattle.std.proofs.Common.{◌≡◌, ℕ, ◌+◌, ◌-◌, ◌*◌, ◌/◌, ◌%◌, ◌^◌, ◌<◌, ◌≤◌, Bool, true, false, cond, ◌&&◌, eqb, List, [], ◌∷◌, length, get_or, ℤ, pos, negsuc, ◌-ℤ◌, nat_abs, sym, refl, ap, ◌∙◌, lt_of_lt_of_le, div-add-mod', arith, lit≤, w16, w32, SFits, to_z, of_z}
 use native.Mathlib.Nat.{div-div-eq-div-mul}
+use Rattle.std.specs.List.{All}
 use Rattle.std.proofs.lemmas.Int.{ints}
 use Rattle.std.proofs.lemmas.Bool.Decides.{nat_tests}
 use Rattle.arithmetic.specs.Meaning.{Admission, number, not_admitted, Number}
+use Rattle.arithmetic.proofs.Bytes.{are_bytes}
 use Rattle.scientific.specs.Forms.{highest}
 use Rattle.scientific.specs.declared.written.Written.{Written}
 use Rattle.scientific.specs.Patterns.{zeros, written, admission, from_complement, complement, M_in, e_in, ends_in_zeros, admitted, bytes, pattern, meaning}
@@ -64,6 +66,10 @@ pattern_admitted d z h l n = admitted_bytes d (written d z).m (written d z).e (l
 pub pattern_eight : (d : ℕ) (z : ℤ) → length (pattern d z) ≡ 8
 unfolding pattern
 pattern_eight d z = refl
+
+pub pattern_bytes : (d : ℕ) (z : ℤ) → All (λ x. x < 256) (pattern d z)
+unfolding pattern
+pattern_bytes d z = let M = complement 32 (written d z).m in let e = complement 16 (written d z).e in are_bytes ((M / 2 ^ 24) ∷ (M / 2 ^ 16) ∷ (M / 256) ∷ M ∷ (e / 256) ∷ e ∷ 0 ∷ 0 ∷ [])
 
 pub admitted_number : (d : ℕ) (bs : List ℕ) (a : ℤ) → 1 ≤ d → d ≤ 8 → admitted d bs ≡ number a → Number (meaning d) a
 unfolding admitted

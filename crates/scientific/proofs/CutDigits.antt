@@ -61,14 +61,12 @@ some_size s q n e = lt_irrefl 0 (rw (sym (size_with s q) ∙ e) at (mul-pos (abo
     above : (s : ℤ) → (s ≡ pos 0 → ⊥) → 0 < nat_abs s
     above s n = omega (arith, ints)
 
+-- M and e of z units that are not 0, by the zeros that they are written with
+pub written_by : (d : ℕ) (z : ℤ) (k : ℕ) (w : Written) → zeros d z ≡ k → (nat_abs z ≡ 0 → ⊥) → w.m ≡ quot_z z (pos (10 ^ k)) → w.e ≡ pos k -ℤ pos 70 → w ≡ written d z
+unfolding written
+written_by d z k w q n m e = alike w (written d z) (m ∙ ap (λ (x : ℕ). quot_z z (pos (10 ^ x))) (sym q))
+    (e ∙ ap (λ (x : ℕ). pos x -ℤ pos 70) (sym q) ∙ ap (λ (b : Bool). cond b (pos 0) (pos (zeros d z) -ℤ pos 70)) (sym (ne_eqb (nat_abs z) 0 n)))
+
 -- the significand s with q zeros has c digits, of which those past the d-th are cut off
 pub written_is : (d : ℕ) (s : ℤ) (q c : ℕ) (w : Written) → is_full (nat_abs s) q ≡ true → d ≤ 8 → Counts (nat_abs s) c → (s ≡ pos 0 → ⊥) → w.m ≡ quot_z s (pos (10 ^ (c - d))) → w.e ≡ pos (q + (c - d)) -ℤ pos 70 → w ≡ written d (with_zeros s q)
-unfolding written
-written_is d s q c w f h C n m e = alike w (written d z) (m ∙ cut_signed s q (c - d) ∙ ap (λ (x : ℕ). quot_z z (pos (10 ^ x))) same)
-    (e ∙ ap (λ (x : ℕ). pos x -ℤ pos 70) same ∙ ap (λ (b : Bool). cond b (pos 0) (pos (zeros d z) -ℤ pos 70)) (sym (ne_eqb (nat_abs z) 0 (some_size s q n))))
-  where
-    z : ℤ
-    z = with_zeros s q
-
-    same : q + (c - d) ≡ zeros d (with_zeros s q)
-    same = cut_zeros s q d c f h C
+written_is d s q c w f h C n m e = written_by d (with_zeros s q) (q + (c - d)) w (sym (cut_zeros s q d c f h C)) (some_size s q n) (m ∙ cut_signed s q (c - d)) e

@@ -21,6 +21,7 @@ mod OneWritten
 mod CutDigits
 mod BytePatterns
 pub mod TheRules
+pub mod PlainValues
 mod ExactNumbers
 mod GrainNumbers
 mod EvenTies
