@@ -36,11 +36,7 @@ fn work_task<A: Arithmetic>(bench: &mut Bench<'_, A>, arith: &mut A, task: Task<
 
 // Works a slip: its zero, then its task; one that has neither clears.
 #[tactic(auto, using(crate::proofs::Turns::goes_on_in_turn))]
-pub fn work_slip<A: Arithmetic>(
-    bench: &mut Bench<'_, A>,
-    arith: &mut A,
-    slip: Slip<'_>,
-) -> Worked
+pub fn work_slip<A: Arithmetic>(bench: &mut Bench<'_, A>, arith: &mut A, slip: Slip<'_>) -> Worked
     requires law { A.lawful arith.old }
     ensures answers { told_worked result ≡ working (told_slip slip.entry) (making_of (A.setting arith.old) bench.old) (state_of (A.setting arith.old) bench.old) }
     ensures some { IsAnswered result }
