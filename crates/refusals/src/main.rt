@@ -70,7 +70,8 @@ fn added_65(bench: &mut Bench<Binary64>) -> Result<(), Refusal> {
     added(bench, 0.0)
 }
 
-// 9: questions are issued until one is refused, and then all are withdrawn. (By recursion: a `Vec` of questions could be let go.)
+// 9: questions are issued until one is refused, and then all are withdrawn. (By recursion: the check takes no
+// `Vec` of questions, since even an empty one could not be dropped.)
 fn issued_33(bench: &mut Bench<Binary64>, more: u8) -> Result<(), Refusal>
     ensures number { bench.new.number ≡ bench.old.number }
     ensures out { bench.new.out ≡ bench.old.out }
