@@ -1,3 +1,6 @@
+pub mod Fitting
+pub mod Writing
+pub mod Putting
 pub mod Turns
 pub mod Slips
 pub mod Loop

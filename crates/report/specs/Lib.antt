@@ -1,3 +1,7 @@
+pub mod Puts
+pub mod WriterLaws
+pub mod Regions
+pub mod RegionLaws
 pub mod Book
 pub mod Text
 pub mod Steps
