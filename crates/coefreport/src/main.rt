@@ -1,11 +1,28 @@
-// Reads a sheet from standard input and prints its report. The status is 0 whatever the sheet says.
+// Reads a sheet from standard input and prints its report. The status is 0 whatever the sheet says; it is another where memory, the input or
+// the output fails.
 #![tactic(auto)]
 
-use report::report_input;
-use std::io::{self, BufWriter, Write};
+ghost use Rattle.std.specs.Prelude.{◌≡◌, IfOk, IfSome};
+ghost use Rattle.report.specs.Report.{report};
+
+use report::printer::Printer;
+use report::report_sheet;
+use sheet::opening::LONGEST;
+use std::alloc::Global;
+use std::io::{self, BufWriter, Read};
+
+// Reads the sheet that an input holds: of one that is too long only one byte more than the longest, which has the same report.
+fn read_sheet<R: Read + Drop>(alloc: Global, input: R) -> io::Result<Vec<u8>>
+    ensures { IfOk result (λ sheet. IfSome (R.remaining input) (λ held. report sheet.items ≡ report held)) }
+{
+    let mut sheet = Vec::new(alloc);
+    input.take(LONGEST as u64 + 1).read_to_end(&mut sheet)?;
+    Ok(sheet)
+}
 
 fn main(rt: HostRuntime) -> io::Result<()> {
-    let mut out = BufWriter::new(rt.alloc(), rt.stdout())?;
-    report_input(rt.alloc(), rt.stdin(), &mut out)?;
+    let sheet = read_sheet(rt.alloc(), rt.stdin())?;
+    let mut out = Printer::new(BufWriter::new(rt.alloc(), rt.stdout())?);
+    report_sheet(&sheet, &mut out)?;
     out.flush()
 }

@@ -1,8 +1,7 @@
 -- A sheet that is too long has the same report if it is cut after the first byte too many: both are refused for their length.
 use Rattle.std.proofs.Common.{◌≡◌, ℕ, ◌≤◌, ◌&&◌, Bool, true, false, cond, T, leb, List, [], ◌++◌, length, take, ap, subst, sym, refl, ◌∙◌, arith, le→leb, leb→le}
 use Rattle.std.proofs.Math.Nat.{lt_of_not-le}
-use Rattle.std.specs.Prelude.{slice_index, Option, None, Some, Ok, Err, Result, IfSome, OnOk, option_map}
-use Rattle.std.specs.Io.KnownBytes.{Appends}
+use Rattle.std.specs.Prelude.{slice_index, Option, None, Some, IfSome, option_map}
 use Rattle.std.specs.Io.Take.{take_limit, take_inner, take_remaining}
 use Rattle.std.specs.declared.io.traits.Take.{Take}
 use Rattle.std.proofs.lemmas.List.{take_all, length-take-le}
@@ -27,15 +26,14 @@ report_cut s = go (leb (length s) 32768) refl
         let l : 32769 ≤ length s = lt_of_not-le (λ n. subst T e (le→leb (length s) 32768 n)) in
         too_long (take 32769 s) (let m : length (take 32769 s) ≡ 32769 = length-take-le 32769 s l in omega (arith, m)) ∙ sym (too_long s l)
 
--- what is read through a limit of an input that is known, up to its end, is reported as the whole of the input
-pub input_reported : {R X E : Type 0} (remaining : R → Option (List ℕ)) (input : R) (limited : Take R) (before after sheet : List ℕ) (r : Result X E) (old new : Option (List ℕ)) →
-    take_inner limited ≡ input → take_limit limited ≡ 32769 → before ≡ [] → sheet ≡ after →
-    IfSome (take_remaining remaining limited) (λ xs. after ≡ before ++ xs) → OnOk r (Appends old new (report sheet)) →
-    OnOk r (IfSome (remaining input) (λ s. Appends old new (report s)))
-input_reported remaining input limited before after sheet (Err e) old new i l n a h w = tt
-input_reported remaining input limited before after sheet (Ok x) old new i l n a h w =
+-- what is read through a limit of an input that is known, up to its end, has the report of all that the input holds
+pub report_of_read : {R : Type 0} (remaining : R → Option (List ℕ)) (input : R) (limited : Take R) (before after : List ℕ) →
+    take_inner limited ≡ input → take_limit limited ≡ 32769 → before ≡ [] →
+    IfSome (take_remaining remaining limited) (λ xs. after ≡ before ++ xs) →
+    IfSome (remaining input) (λ held. report after ≡ report held)
+report_of_read remaining input limited before after i l n h =
     go (remaining input) (subst (λ o. IfSome o (λ xs. after ≡ before ++ xs)) (ap (λ k. option_map (take k) (remaining (take_inner limited))) l ∙ ap (λ z. option_map (take 32769) (remaining z)) i) h)
   where
-    go : (known : Option (List ℕ)) → IfSome (option_map (take 32769) known) (λ xs. after ≡ before ++ xs) → IfSome known (λ s. Appends old new (report s))
+    go : (known : Option (List ℕ)) → IfSome (option_map (take 32769) known) (λ xs. after ≡ before ++ xs) → IfSome known (λ held. report after ≡ report held)
     go None h = tt
-    go (Some s) h = subst (λ t. Appends old new t) (ap report (a ∙ h ∙ ap (λ b. b ++ take 32769 s) n) ∙ report_cut s) w
+    go (Some s) h = ap report (h ∙ ap (λ b. b ++ take 32769 s) n) ∙ report_cut s

@@ -1,4 +1,7 @@
 pub mod Workings
+pub mod Fitting
+pub mod Writing
+pub mod Putting
 pub mod Slips
 pub mod Loop
 pub mod TheLaw

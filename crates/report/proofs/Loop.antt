@@ -1,7 +1,6 @@
 -- A turn of the loop, seen from the bench that the loop began with: the arithmetic is set as it was, the bench was made so, and the
 -- sheet is the same.
-use Rattle.std.proofs.Common.{◌≡◌, ℕ, ◌+◌, ◌-◌, ◌<◌, suc, true, false, List, ◌++◌, length, take, drop, Option, None, Some, Err, refl, sym, ap, subst, ◌∙◌, arith}
-use Rattle.std.specs.Io.KnownBytes.{Appends}
+use Rattle.std.proofs.Common.{◌≡◌, ℕ, ◌+◌, ◌-◌, ◌<◌, suc, true, false, List, ◌++◌, length, take, drop, Option, None, Some, Err, Result, refl, sym, ap, subst, ◌∙◌, arith}
 use Rattle.std.proofs.Math.Seq.{take-append_seam}
 use Rattle.arithmetic.specs.Setting.{Setting}
 use Rattle.coefficients.specs.Calls.{Making, State}
@@ -17,7 +16,8 @@ use Rattle.report.specs.Calls.{told_kept, report_state, next_reading, slip_step,
 use Rattle.report.specs.declared.report.Report.{Report}
 use Rattle.report.specs.declared.refusal.Unreported.{Unreported}
 use Rattle.report.specs.declared.refusal.Unreported.TheVariants.{NoRoom, Faulty}
-use Rattle.report.proofs.Slips.{Going, goes_on, all_told, ends}
+use Rattle.report.specs.Puts.{TakesSome, Puts}
+use Rattle.report.proofs.Slips.{Going, goes_on, all_told, all_counted, ends, refused}
 
 -- as many readings are left as turns were not taken
 pub none_taken : (n : ℕ) → n ≡ n - 0
@@ -30,10 +30,10 @@ one_left n i h = omega arith
 pub made_as : {A N P : Type 0} {g : _} (st st' : Setting P) → st' ≡ st → (bench bench' : Bench A N P g) → making_of st' bench' ≡ making_of st' bench → making_of st bench' ≡ making_of st bench
 made_as st st' same bench bench' e = sym (ap (λ t. making_of t bench') same) ∙ e ∙ ap (λ t. making_of t bench) same
 
--- what is written of the buffer is the text that was written into it
-pub written_text : (old new : List ℕ) (n : ℕ) (text : List ℕ) (out out' : Option (List ℕ)) → n ≡ length text → new ≡ text ++ drop n old → Appends out out' (take n new) → Appends out out' text
-written_text old new n text out out' l e w =
-    subst (λ x. Appends out out' x) (ap (λ x. take n x) e ∙ ap (λ x. take x (text ++ drop n old)) l ∙ take-append_seam text (drop n old)) w
+-- what is put of the buffer is the text that was written into it
+pub written_text : {S X E : Type 0} (takes : S → S → List ℕ → Type 0) (old new : List ℕ) (n : ℕ) (text : List ℕ) (out out' : S) (r : Result X E) → n ≡ length text → new ≡ text ++ drop n old → Puts takes out out' (take n new) r → Puts takes out out' text r
+written_text takes old new n text out out' r l e w =
+    subst (λ x. Puts takes out out' x r) (ap (λ x. take n x) e ∙ ap (λ x. take x (text ++ drop n old)) l ∙ take-append_seam text (drop n old)) w
 
 -- a refused report call has read no slip
 pub refused_none : (b : Making) (s : ReportState) (r : Reading) (u : Unreported) (old new : List ℕ) (said : ReportAnswer) → Answers (Err u) old new said → said ≡ (step_by_reading b s r).answer → false ≡ is_slip r
@@ -65,23 +65,34 @@ module _ {A N P : Type 0} {g : _} (st st' : Setting P) (b : Making) (sheet : Lis
       ∙ ap (λ c. step_by_reading c before (reading c.meaning r.reader.bytes.now before.byte before.slips)) made
       ∙ ap (λ x. step_by_reading b before (reading b.meaning x before.byte before.slips)) bytes
 
-  -- where the lines of the next slip were written, if there is one
-  module _ (k : ℕ) (first : Contents) (state : State) (old now new : Option (List ℕ)) (i : Going b sheet (suc k) before first state old now) (w : Appends now new (lines_answered (slip_step st' r bench).answer)) where
-    written : Appends now new (lines_answered (step_by_reading b before next).answer)
-    written = subst (λ t. Appends now new (lines_answered t.answer)) step_as w
+  -- where the lines of the next slip were put, if there is one
+  module _ {S : Type 0} (takes : S → S → List ℕ → Type 0) (in_turn : (r s t : S) (xs ys : List ℕ) → takes r s xs → takes s t ys → takes r t (xs ++ ys)) (k : ℕ) (first : Contents) (state : State) (old now new : S) (n : ℕ) (i : Going takes b sheet (suc k) before first state old now n) where
+    -- where the sink refuses
+    pub turn_refused : TakesSome takes now new (lines_answered (slip_step st' r bench).answer) → TakesSome takes old new (lines b.meaning (book_of first.slips b state))
+    turn_refused p = refused takes in_turn b sheet k before before first state old now new n i (subst (λ t. TakesSome takes now new (lines_answered t.answer)) step_as p)
 
-    pub turn_told : false ≡ is_slip (next_reading st' r) → Appends old new (lines b.meaning (book_of first.slips b state))
-    turn_told h = all_told b sheet k before before first state old now new i (sym (h ∙ ap is_slip reading_as)) written
+    module _ (m : ℕ) (w : takes now new (lines_answered (slip_step st' r bench).answer)) (l : m ≡ length (lines_answered (slip_step st' r bench).answer)) where
+      written : takes now new (lines_answered (step_by_reading b before next).answer)
+      written = subst (λ t. takes now new (lines_answered t.answer)) step_as w
 
-    module _ (r' : Report) (bench' : Bench A N P g) (then : report_state st' r' bench' ≡ (slip_step st' r bench).then) where
-      then_as : report_state st r' bench' ≡ (step_by_reading b before next).then
-      then_as = sym (ap (λ t. report_state t r' bench') same) ∙ then ∙ ap (λ t. t.then) step_as
+      counted : m ≡ length (lines_answered (step_by_reading b before next).answer)
+      counted = l ∙ ap (λ t. length (lines_answered t.answer)) step_as
 
-      pub turn_on : true ≡ is_slip (next_reading st' r) → Going b sheet k (report_state st r' bench') first state old new
-      turn_on h = goes_on b sheet k before (report_state st r' bench') first state old now new i (sym (h ∙ ap is_slip reading_as)) written then_as
+      pub turn_told : false ≡ is_slip (next_reading st' r) → takes old new (lines b.meaning (book_of first.slips b state))
+      turn_told h = all_told takes in_turn b sheet k before before first state old now new n i (sym (h ∙ ap is_slip reading_as)) written
 
-      pub turn_ends : r.fault ≡ None → false ≡ is_slip (next_reading st' r) → ending_by r'.reader.slips (told_kept r'.fault) ≡ first.ending
-      turn_ends n h = ends b sheet k before (report_state st r' bench') first state old now new i (ap told_kept n) (sym (h ∙ ap is_slip reading_as)) then_as
+      pub turn_counted : false ≡ is_slip (next_reading st' r) → m ≡ 0 → n ≡ length (lines b.meaning (book_of first.slips b state))
+      turn_counted h z = all_counted takes in_turn b sheet k before before first state old now new n i (sym (h ∙ ap is_slip reading_as)) (sym z ∙ counted)
 
-      pub turn_unmet : true ≡ is_slip (next_reading st' r) → r'.fault ≡ None
-      turn_unmet h = unmet_after b before next r'.fault (h ∙ ap is_slip reading_as) (ap (λ s. s.fault) then_as)
+      module _ (r' : Report) (bench' : Bench A N P g) (then : report_state st' r' bench' ≡ (slip_step st' r bench).then) where
+        then_as : report_state st r' bench' ≡ (step_by_reading b before next).then
+        then_as = sym (ap (λ t. report_state t r' bench') same) ∙ then ∙ ap (λ t. t.then) step_as
+
+        pub turn_on : true ≡ is_slip (next_reading st' r) → Going takes b sheet k (report_state st r' bench') first state old new (n + m)
+        turn_on h = goes_on takes in_turn b sheet k before (report_state st r' bench') first state old now new n i (sym (h ∙ ap is_slip reading_as)) m written counted then_as
+
+        pub turn_ends : r.fault ≡ None → false ≡ is_slip (next_reading st' r) → ending_by r'.reader.slips (told_kept r'.fault) ≡ first.ending
+        turn_ends f h = ends takes in_turn b sheet k before (report_state st r' bench') first state old now new n i (ap told_kept f) (sym (h ∙ ap is_slip reading_as)) then_as
+
+        pub turn_unmet : true ≡ is_slip (next_reading st' r) → r'.fault ≡ None
+        turn_unmet h = unmet_after b before next r'.fault (h ∙ ap is_slip reading_as) (ap (λ s. s.fault) then_as)

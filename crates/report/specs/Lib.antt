@@ -1,3 +1,7 @@
+pub mod Puts
+pub mod WriterLaws
+pub mod Regions
+pub mod RegionLaws
 pub mod Text
 pub mod Workings
 pub mod Steps

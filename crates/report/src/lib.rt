@@ -2,9 +2,14 @@
 #![tactic(auto)]
 
 pub use report::Report;
-pub use whole::{report_input, report_sheet};
+pub use sink::Sink;
+pub use whole::report_sheet;
 
+mod filling;
 mod lines;
+pub mod printer;
 pub mod refusal;
+pub mod region;
 pub mod report;
+pub mod sink;
 pub mod whole;

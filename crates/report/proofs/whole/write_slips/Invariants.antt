@@ -1,5 +1,6 @@
--- Before each turn: what was written and what is left make the lines of the whole sheet, with one reading less left than turns were taken.
-use Rattle.std.proofs.Common.{◌≡◌, ◌-◌, None, length}
+-- Before each turn: what was put and what is left make the lines of the whole sheet, with one reading less left than turns were taken; and
+-- what was put has at most 128 bytes for each turn.
+use Rattle.std.proofs.Common.{◌≡◌, ◌-◌, ◌*◌, ◌≤◌, None, length}
 use Rattle.arithmetic.specs.Setting.{Stays}
 use Rattle.bench.specs.Benches.{making_of, state_of}
 use Rattle.sheet.specs.Contents.{contents}
@@ -12,7 +13,8 @@ invariant-loop-turn g l =
     let st = g.A.Arithmetic.setting l.initial.arith in
     let sheet = l.sheet.bytes.now in
     record {
-      going : Going (making_of st l.initial.bench) sheet (length sheet - l.turn) (report_state st l.report l.bench) (contents st.meaning sheet) (state_of st l.initial.bench) (g.W.Write.contents l.initial.out) (g.W.Write.contents l.out);
+      going : Going g.S.Sink.takes (making_of st l.initial.bench) sheet (length sheet - l.turn) (report_state st l.report l.bench) (contents st.meaning sheet) (state_of st l.initial.bench) l.initial.out l.out l.all;
+      few : l.all ≤ 128 * l.turn;
       unmet : l.report.fault ≡ None;
       making : making_of st l.bench ≡ making_of st l.initial.bench;
       bytes : l.report.reader.bytes.now ≡ sheet;
