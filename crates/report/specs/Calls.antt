@@ -16,11 +16,6 @@ abbrev pub told_kept : Option SheetFault → Option Fault
 told_kept None = None
 told_kept (Some f) = Some (told_fault f)
 
--- the fault of a reading is kept
-abbrev pub KeepsFault : {X : Type 0} → Result X SheetFault → Option SheetFault → Option SheetFault → Type 0
-KeepsFault (Ok x) fault fault' = fault' ≡ fault
-KeepsFault (Err f) fault fault' = fault' ≡ Some f
-
 -- ---- where a report and its bench stand
 -- at a byte, after so many slips, with the fault that was met
 abbrev pub report_state_at : {A N P : Type 0} {g : _} → Setting P → ℕ → ℕ → Option SheetFault → Bench A N P g → ReportState

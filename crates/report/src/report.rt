@@ -4,19 +4,17 @@ ghost use Rattle.arithmetic.specs.Setting.{Stays};
 ghost use Rattle.bench.specs.Benches.{making_of, Keeps};
 ghost use Rattle.calls.specs.Cells.{Leaves};
 ghost use Rattle.sheet.specs.Layout.{ended, reading};
-ghost use Rattle.sheet.specs.Reading.{told_reading, Moved};
 ghost use Rattle.report.specs.Steps.{ending_by};
 ghost use Rattle.report.specs.Text.{ending_line};
-ghost use Rattle.report.specs.Calls.{told_kept, report_state, step_of, Answers, KeepsFault, Written};
+ghost use Rattle.report.specs.Calls.{told_kept, report_state, step_of, Answers, Written};
 
 use crate::lines::{LEAST_BUFFER, line_of_end, line_of_fault, lines_of, write};
 use crate::refusal::{SmallBuffer, Unreported};
 use arithmetic::Arithmetic;
 use bench::Bench;
 use sheet::fault::SheetFault;
-use sheet::slip::Slip;
 use sheet::{Reader, Sheet};
-use slips::work::work_slip;
+use slips::work::work_next;
 
 // Where the report of a sheet stands: the reader of its slips, and the fault that was met, if one was.
 #[derive(Drop)]
@@ -47,25 +45,10 @@ impl<'s> Report<'s> {
         }
     }
 
-    // The next slip; a fault is kept.
-    fn read<A: Arithmetic>(&mut self, arith: &A) -> Result<Option<Slip<'s>>, SheetFault>
-        requires law { A.lawful arith.now }
-        ensures answer { told_reading result self.new.reader.at ≡ reading (A.setting arith.now).meaning self.old.reader.bytes.now self.old.reader.at self.old.reader.slips }
-        ensures moved { Moved result self.old.reader.at self.old.reader.slips self.new.reader.at self.new.reader.slips }
-        ensures bytes { self.new.reader.bytes.now ≡ self.old.reader.bytes.now }
-        ensures fault { KeepsFault result self.old.fault self.new.fault }
-    {
-        let read = self.reader.next_slip(arith);
-        if let Err(fault) = read {
-            self.fault = Some(fault);
-        }
-        read
-    }
-
     // Reports the next slip, if the line buffer has 128 bytes: works it on the bench, writes its lines at the start of the buffer and
     // answers their length, 0 at the sheet's end. Where a fault is met, or was met before, nothing is written, and nothing changes but
     // that the fault is kept.
-    #[tactic(auto, using(crate::proofs::Workings::slip_text))]
+    #[tactic(auto, using(crate::proofs::Workings::stepped))]
     pub fn next_slip<A: Arithmetic>(
         &mut self,
         bench: &mut Bench<'_, A>,
@@ -85,11 +68,14 @@ impl<'s> Report<'s> {
         if let Some(fault) = self.fault {
             return Err(fault.into());
         }
-        let Some(slip) = self.read(arith)? else {
-            return Ok(0);
-        };
-        let lines = lines_of(work_slip(bench, arith, slip));
-        Ok(write(buffer, lines.as_str()))
+        match work_next(&mut self.reader, bench, arith) {
+            Ok(Some(worked)) => Ok(write(buffer, lines_of(worked).as_str())),
+            Ok(None) => Ok(0),
+            Err(fault) => {
+                self.fault = Some(fault);
+                Err(fault.into())
+            }
+        }
     }
 
     // Writes the last line at the start of the line buffer, if that has 128 bytes, and answers its length: the fault that was met, or

@@ -1,5 +1,5 @@
 // Working slips on a bench.
-ghost use Rattle.std.specs.Prelude.{◌≡◌};
+ghost use Rattle.std.specs.Prelude.{◌≡◌, IfOk, IfSome};
 ghost use Rattle.arithmetic.specs.Setting.{Stays};
 ghost use Rattle.bench.specs.Benches.{making_of, state_of, Keeps};
 ghost use Rattle.calls.specs.Cells.{Leaves};
@@ -67,6 +67,7 @@ pub fn work_next<A: Arithmetic>(
     requires law { A.lawful arith.old }
     ensures answer { told_next result ≡ next_by (making_of (A.setting arith.old) bench.old) (state_of (A.setting arith.old) bench.old) (next_reading (A.setting arith.old) reader.old) }
     ensures then { stand (A.setting arith.old) reader.new bench.new ≡ stand_by (making_of (A.setting arith.old) bench.old) (stand (A.setting arith.old) reader.old bench.old) (next_reading (A.setting arith.old) reader.old) }
+    ensures some { IfOk result (λ worked. IfSome worked IsAnswered) }
     ensures bytes { reader.new.bytes.now ≡ reader.old.bytes.now }
     ensures cells { Leaves (making_of (A.setting arith.old) bench.old).K (entries_by_reading (making_of (A.setting arith.old) bench.old) (state_of (A.setting arith.old) bench.old) (next_reading (A.setting arith.old) reader.old)) bench.old.row.now bench.new.row.now }
     ensures keeps { Keeps (A.setting arith.old) bench.old bench.new }
