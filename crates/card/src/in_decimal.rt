@@ -1,4 +1,4 @@
-// Two cards in decimal with eight digits. A number M × 10^e is given as (M, e), with eight digits in M.
+// Three cards in decimal with eight digits. A number M × 10^e is given as (M, e), with eight digits in M.
 use calls::call::Call;
 use patterns::Pattern;
 
@@ -20,6 +20,20 @@ fn examine(order: u8, claim: (i32, i16), tolerance: (i32, i16)) -> Call {
         claim: pattern(claim),
         tolerance: pattern(tolerance),
     }
+}
+
+// The zeros 1, 2 and 3, for a bench of highest order 3. Binary64 answers the same coefficients with bounds of 0, so both bounds together
+// leave no room for a difference.
+pub fn one_two_three() -> [Call; 7] {
+    [
+        add((10_000_000, -7)),
+        add((20_000_000, -7)),
+        add((30_000_000, -7)),
+        Call::Ask(0),
+        Call::Ask(1),
+        Call::Ask(2),
+        Call::Ask(3),
+    ]
 }
 
 // The zero 1.0000001 twice, for a bench of highest order 2, and claims on the coefficient of order 2.

@@ -1,5 +1,5 @@
-// A card is one filter, given by its zeros. This program works a card in binary64 and two in decimal with eight digits, each on a bench
-// of its own, asks coefficients, examines claims, and prints a heading for each card and a line for each call.
+// A card is the work on one filter: its zeros, and the calls on its bench. This program works a card in binary64 and three in decimal with
+// eight digits, each on a bench of its own, asks coefficients, examines claims, and prints a heading for each card and a line for each call.
 #![tactic(auto)]
 
 use arithmetic::Arithmetic;
@@ -42,6 +42,29 @@ fn work_card<A: Arithmetic>(
     Ok(())
 }
 
+// Works the cards in decimal.
+fn work_decimal_cards(rt: &HostRuntime) -> io::Result<()> {
+    let mut decimal = Decimal::eight();
+    let mut row = [empty(&decimal); 4];
+    work_card(
+        rt,
+        "decimal",
+        &mut decimal,
+        &mut row,
+        &in_decimal::one_two_three(),
+    )?;
+    let mut row = [empty(&decimal); 3];
+    work_card(rt, "decimal", &mut decimal, &mut row, &in_decimal::square())?;
+    let mut row = [empty(&decimal); 6];
+    work_card(
+        rt,
+        "decimal",
+        &mut decimal,
+        &mut row,
+        &in_decimal::cancelled(),
+    )
+}
+
 fn main(rt: HostRuntime) -> io::Result<()> {
     rounding_laws();
     worked_figures();
@@ -54,21 +77,5 @@ fn main(rt: HostRuntime) -> io::Result<()> {
         &mut row,
         &in_binary64::one_two_three(),
     )?;
-    let mut decimal = Decimal::eight();
-    let mut row = [empty(&decimal); 3];
-    work_card(
-        &rt,
-        "decimal",
-        &mut decimal,
-        &mut row,
-        &in_decimal::square(),
-    )?;
-    let mut row = [empty(&decimal); 6];
-    work_card(
-        &rt,
-        "decimal",
-        &mut decimal,
-        &mut row,
-        &in_decimal::cancelled(),
-    )
+    work_decimal_cards(&rt)
 }

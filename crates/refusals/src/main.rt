@@ -1,4 +1,4 @@
-// Shows each refusal that a bench can give, by its number and details, in binary64.
+// Shows each refusal that a bench can give, by its number and details, and that of a report call, in binary64.
 #![tactic(auto)]
 
 ghost use Rattle.std.specs.Prelude.{◌≡◌};
@@ -10,8 +10,11 @@ use bench::{Bench, check_row};
 use binary64::Binary64;
 use calls::work::{add, ask, examine, withdraw};
 use patterns::Pattern;
+use reporting::of_report;
 use row::empty;
 use std::io;
+
+mod reporting;
 
 // 2^900, the largest number (`card` has it too), and 2^901
 const LARGEST: f64 = 8.452712498170644e270;
@@ -151,5 +154,6 @@ fn of_range(rt: &HostRuntime) -> io::Result<()> {
 fn main(rt: HostRuntime) -> io::Result<()> {
     show(&rt, check_row(&[empty(&Binary64); 1]))?;
     of_order_3(&rt)?;
-    of_range(&rt)
+    of_range(&rt)?;
+    of_report(&rt)
 }
