@@ -1,6 +1,6 @@
 #!/usr/bin/env python3
 """Gives each sheet of crates/sheets/stdin to the program coefreport, as a user does, and compares what it prints with the report in
-crates/sheets/stdout; the status has to be 0. What a contract cannot say of a program that reads standard input and writes standard output
+crates/sheets/stdout; the status has to be 0. Where standard output cannot be written it has to be another. What a contract cannot say of a program that reads standard input and writes standard output
 is tried so, on both of the program's builds (LLVM's and that of Rattle's own compiler), which `rt ci` leaves in crates/coefreport/out."""
 
 import os
@@ -35,15 +35,28 @@ def reports():
                 report = ""
 
 
+BUILDS = [os.path.join(ROOT, "crates", "coefreport", "out", name) for name in ["coefreport", "coefreport.by-rattle"]]
+
+
+def refuse_a_lost_report():
+    """A report that cannot be written, as to a full device, is an error, also where only the flush at the end finds that out."""
+    for build in BUILDS:
+        with open("/dev/full", "wb") as full:
+            run = subprocess.run([build], input=b"\x01\x01", stdout=full, stderr=subprocess.DEVNULL)
+        if run.returncode == 0:
+            sys.exit(f"{build}: status 0, and the report was lost")
+
+
 def main():
     count = 0
     for sheet, report in zip(sheets(), reports(), strict=True):
-        for build in ["coefreport", "coefreport.by-rattle"]:
-            run = subprocess.run([os.path.join(ROOT, "crates", "coefreport", "out", build)], input=sheet, capture_output=True)
+        for build in BUILDS:
+            run = subprocess.run([build], input=sheet, capture_output=True)
             if run.returncode != 0 or run.stdout.decode() != report:
                 sys.exit(f"{build}: status {run.returncode} and another report of the sheet {sheet[:40].hex().upper()}, {len(sheet)} bytes")
         count += 1
-    print(f"coefreport: {count} sheets, reported as they have to be")
+    refuse_a_lost_report()
+    print(f"coefreport: {count} sheets, reported as they have to be; a report that is lost is an error")
 
 
 main()

@@ -101,15 +101,20 @@ fn count_lines(report: &str, counts: &mut BTreeMap<String, u64>) {
     }
 }
 
-/// Whether a buffer of about the length of a report is left as it was where it is shorter, and past the report where it is not.
-fn keeps_buffer(sheet: &[u8], report: &[u8], room: usize) -> bool {
+/// Whether a buffer of so many bytes has as much of a report as there is room for, and is as it was past that, and the length of the whole is
+/// answered.
+fn fills_buffer(sheet: &[u8], report: &[u8], room: usize) -> bool {
     let mut buffer = vec![0xa5; room];
     let length = proved::report_into(sheet, &mut buffer);
+    let fitting = report.len().min(room);
     let mut expected = vec![0xa5; room];
-    if report.len() <= room {
-        expected[..report.len()].copy_from_slice(report);
-    }
+    expected[..fitting].copy_from_slice(&report[..fitting]);
     length == report.len() && buffer == expected
+}
+
+/// Rooms for a report of so many bytes: none, some that is too short, and one beside its length.
+fn rooms(length: usize, random: &mut Random) -> [usize; 3] {
+    [0, random.below(length as u64) as usize, (length + 3).saturating_sub(random.below(6) as usize)]
 }
 
 /// Compares the reports of so many random sheets. Answers how many differ.
@@ -123,8 +128,8 @@ pub fn sheets(seed: u64, count: u64) -> u64 {
         let sheet = any_sheet(&mut random, longest);
         let expected = sheet::report(&sheet);
         let got = proved::report(&sheet, &mut buffer);
-        let room = (expected.len() + 3).saturating_sub(random.below(6) as usize);
-        let agrees = expected.as_bytes() == got && keeps_buffer(&sheet, expected.as_bytes(), room);
+        let fills = rooms(expected.len(), &mut random).iter().all(|&room| fills_buffer(&sheet, expected.as_bytes(), room));
+        let agrees = expected.as_bytes() == got && fills;
         score.note(agrees);
         count_lines(&expected, &mut lines);
         if !agrees && score.differ <= SHOWN {

@@ -34,8 +34,7 @@ unsafe extern "C" {
 /// The report of a sheet; the buffer is kept by the caller, so that none is made for each sheet.
 pub fn report<'b>(sheet: &[u8], buffer: &'b mut Vec<u8>) -> &'b [u8] {
     loop {
-        let length = unsafe { coef_report(sheet.as_ptr(), sheet.len(), buffer.as_mut_ptr(), buffer.len()) };
-        assert!(length > 0, "memory was refused");
+        let length = report_into(sheet, buffer);
         if length <= buffer.len() {
             return &buffer[..length];
         }
@@ -43,7 +42,7 @@ pub fn report<'b>(sheet: &[u8], buffer: &'b mut Vec<u8>) -> &'b [u8] {
     }
 }
 
-/// The library's answer for a report in the buffer as it is: its length.
+/// Reports a sheet into a buffer as it is, and answers the length of the whole report.
 pub fn report_into(sheet: &[u8], buffer: &mut [u8]) -> usize {
     unsafe { coef_report(sheet.as_ptr(), sheet.len(), buffer.as_mut_ptr(), buffer.len()) }
 }

@@ -104,7 +104,7 @@ fn write_last<S: Sink>(report: &Report<'_>, out: &mut S) -> Result<usize, S::Ref
 }
 
 // Reports the slips of a sheet on a bench, and answers the length of what it puts.
-#[tactic(auto, using(crate::proofs::Putting::some_of_first, crate::proofs::Putting::some_after_first))]
+#[tactic(auto, using(crate::proofs::Putting::some_of_first))]
 fn report_slips<A: Arithmetic, S: Sink>(
     sheet: Sheet<'_>,
     bench: &mut Bench<'_, A>,

@@ -4,34 +4,55 @@
 // digits and after them so many copies of the last, the count in four hexadecimal digits. Lines that begin with `#` are printed as they are.
 #![tactic(auto)]
 
-ghost use Rattle.std.specs.Prelude.{OnOk};
-ghost use Rattle.std.specs.Io.KnownBytes.{Appends};
-ghost use Rattle.sheets.specs.Sheets.{shown};
+ghost use Rattle.std.specs.Prelude.{◌++◌, None};
+ghost use Rattle.calls.specs.Lines.{newline};
+ghost use Rattle.report.specs.Puts.{Puts};
+ghost use Rattle.sheets.specs.Sheets.{shown, shown_sheet};
 
 use line::read;
-use report::whole::report_sheet;
+use report::printer::Printer;
+use report::{Sink, report_sheet};
 use std::alloc::Global;
-use std::io::{self, Write};
+use std::io;
 
 mod line;
 
-// Writes a comment as it is, or the report of the sheet that a line tells; says so of a line that tells none.
-fn show<W: Write>(alloc: Global, line: &str, out: &mut W) -> io::Result<()>
-    ensures { OnOk result (Appends (W.contents out.old) (W.contents out.new) (shown line.now)) }
+// Puts a text, and after it the end of the line.
+fn put_line<S: Sink>(text: &str, out: &mut S) -> Result<(), S::Refusal>
+    ensures { Puts S.takes out.old out.new (text.now ++ newline) result }
+{
+    out.put(text.as_bytes())?;
+    out.put(b"\n")
+}
+
+// Says of a line that it tells no sheet.
+fn put_no_sheet<S: Sink>(line: &str, out: &mut S) -> Result<(), S::Refusal>
+    ensures { Puts S.takes out.old out.new (shown_sheet line.now None) result }
+{
+    out.put(b"not a sheet: ")?;
+    put_line(line, out)
+}
+
+// Puts a comment as it is, or the report of the sheet that a line tells; says so of a line that tells none. An error is memory that was
+// refused or the sink's own; what was put by then is a beginning.
+fn show<S: Sink<Refusal = io::Error>>(alloc: Global, line: &str, out: &mut S) -> io::Result<()>
+    ensures { Puts S.takes out.old out.new (shown line.now) result }
 {
     if line.starts_with('#') {
-        return writeln!(out, "{line}");
+        return put_line(line, out);
     }
-    match read(alloc, line)? {
-        Some(sheet) => report_sheet(&sheet, out),
-        None => writeln!(out, "not a sheet: {line}"),
-    }
+    let Some(sheet) = read(alloc, line)? else {
+        return put_no_sheet(line, out);
+    };
+    report_sheet(&sheet, out)?;
+    Ok(())
 }
 
 fn main(rt: HostRuntime) -> io::Result<()> {
     let text = io::read_to_string(rt.alloc(), rt.stdin())?;
+    let mut out = Printer::new(rt.stdout());
     for line in text.lines() {
-        show(rt.alloc(), line, &mut rt.stdout())?;
+        show(rt.alloc(), line, &mut out)?;
     }
-    Ok(())
+    out.flush()
 }
