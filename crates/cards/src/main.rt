@@ -5,13 +5,15 @@
 // refusal and its details. Lines that begin with `#` are comments.
 #![tactic(auto)]
 
-ghost use Rattle.std.specs.Prelude.{IsTrue, IfOk};
-ghost use Rattle.cards.specs.Checks.{Agrees};
+ghost use Rattle.std.specs.Prelude.{◌↔◌, IsTrue, IfOk};
+ghost use Rattle.arithmetic.specs.Setting.{Stays};
+ghost use Rattle.bench.specs.Benches.{making_of, state_of, Keeps};
+ghost use Rattle.cards.specs.Checks.{Agrees, LeadsTo};
 
 use arithmetic::Arithmetic;
 use bench::Bench;
 use binary64::Binary64;
-use call::parse;
+use call::told;
 use calls::work::work;
 use comparison::score::Score;
 use comparison::{compare, read_count};
@@ -24,8 +26,8 @@ use tally::Tallies;
 mod call;
 mod tally;
 
-// Works the call of a line and compares its answer; prints a line that has another form.
-#[tactic(auto, using(crate::proofs::Agreeing::parted, crate::proofs::Agreeing::agreed))]
+// Works the call of a line, and answers whether what it answers is what the line expects. Prints a line that does not agree, or that tells no call.
+#[tactic(auto, using(crate::proofs::Agreeing::led, crate::proofs::Agreeing::stayed))]
 fn check<A: Arithmetic>(
     rt: &HostRuntime,
     bench: &mut Bench<A>,
@@ -33,17 +35,17 @@ fn check<A: Arithmetic>(
     line: &str,
 ) -> anyhow::Result<bool>
     requires law { A.lawful arith.old }
-    ensures agrees { IfOk result (λ agrees. IsTrue agrees → Agrees (A.setting arith.old) bench.old bench.new line.now) }
-    ensures law { A.lawful arith.new }
+    ensures agrees { IfOk result (λ agrees. IsTrue agrees ↔ Agrees (making_of (A.setting arith.old) bench.old) (state_of (A.setting arith.old) bench.old) line.now) }
+    ensures leads { LeadsTo (making_of (A.setting arith.old) bench.old) (state_of (A.setting arith.old) bench.old) line.now (state_of (A.setting arith.old) bench.new) }
+    ensures keeps { Keeps (A.setting arith.old) bench.old bench.new }
+    ensures arith { Stays A.setting A.lawful arith.old arith.new }
 {
-    if let Some((question, expected)) = line.split_once(" = ")
-        && let Some(call) = parse(question)
-    {
-        let answer = work(bench, arith, call);
-        return compare(rt, &answer, expected, line);
-    }
-    println!(rt; "not a call: {line}")?;
-    Ok(false)
+    let Some((call, expected)) = told(line) else {
+        println!(rt; "not a call: {line}")?;
+        return Ok(false);
+    };
+    let answer = work(bench, arith, call);
+    compare(rt, &answer, expected, line)
 }
 
 // Works the lines of a card of highest order k; there is none of order 0 or above 64.
