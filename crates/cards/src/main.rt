@@ -9,6 +9,7 @@ ghost use Rattle.std.specs.Prelude.{◌↔◌, IsTrue, IfOk};
 ghost use Rattle.arithmetic.specs.Setting.{Stays};
 ghost use Rattle.bench.specs.Benches.{making_of, state_of, Keeps};
 ghost use Rattle.cards.specs.Checks.{Agrees, LeadsTo};
+ghost use Rattle.cards.specs.Cards.{IsCardScore};
 
 use arithmetic::Arithmetic;
 use bench::Bench;
@@ -48,14 +49,15 @@ fn check<A: Arithmetic>(
     compare(rt, &answer, expected, line)
 }
 
-// Works the lines of a card of highest order k; there is none of order 0 or above 64.
+// Works the lines of a card of highest order k, given its text, but for its comments, and answers their score; there is none of order 0 or above 64.
 fn work_card<A: Arithmetic>(
     rt: &HostRuntime,
     arith: &mut A,
     k: u8,
-    lines: &str,
+    text: &str,
 ) -> anyhow::Result<Score>
     requires law { A.lawful arith.old }
+    ensures { IfOk result (λ score. IsCardScore (A.setting arith.old).meaning k text.now score) }
 {
     let mut score = Score::new();
     if k == 0 || k > 64 {
@@ -65,7 +67,7 @@ fn work_card<A: Arithmetic>(
     }
     let mut row = vec![in rt.alloc(); empty(arith); k as usize + 1]?;
     let mut bench = Bench::make(arith, &mut row, 1);
-    for line in lines.lines() {
+    for line in text.lines() {
         if !line.starts_with('#') {
             score.note(check(rt, &mut bench, arith, line)?);
         }
