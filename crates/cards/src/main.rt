@@ -5,11 +5,12 @@
 // refusal and its details. Lines that begin with `#` are comments.
 #![tactic(auto)]
 
-ghost use Rattle.std.specs.Prelude.{◌↔◌, IsTrue, IfOk};
+ghost use Rattle.std.specs.Prelude.{◌≡◌, ◌<◌, ◌==◌, ◌↔◌, IsTrue, IfOk};
+ghost use Rattle.std.specs.List.{before_first, after_first};
 ghost use Rattle.arithmetic.specs.Setting.{Stays};
 ghost use Rattle.bench.specs.Benches.{making_of, state_of, Keeps};
 ghost use Rattle.cards.specs.Checks.{Agrees, LeadsTo};
-ghost use Rattle.cards.specs.Cards.{IsCardScore};
+ghost use Rattle.cards.specs.Cards.{is_comment as comment, IsCardScore, IsHeadedBy, NotesCard};
 
 use arithmetic::Arithmetic;
 use bench::Bench;
@@ -49,6 +50,13 @@ fn check<A: Arithmetic>(
     compare(rt, &answer, expected, line)
 }
 
+// Whether a line is a comment.
+fn is_comment(line: &str) -> bool
+    ensures { result ≡ comment line.now }
+{
+    line.starts_with('#')
+}
+
 // Works the lines of a card of highest order k, given its text, but for its comments, and answers their score; there is none of order 0 or above 64.
 fn work_card<A: Arithmetic>(
     rt: &HostRuntime,
@@ -68,31 +76,46 @@ fn work_card<A: Arithmetic>(
     let mut row = vec![in rt.alloc(); empty(arith); k as usize + 1]?;
     let mut bench = Bench::make(arith, &mut row, 1);
     for line in text.lines() {
-        if !line.starts_with('#') {
+        if !is_comment(line) {
             score.note(check(rt, &mut bench, arith, line)?);
         }
     }
     Ok(score)
 }
 
+// What stands before the first such character of a text, and what stands after it; all of the text, and nothing, where it has none.
+fn parted(text: &str, delimiter: char) -> (&str, &str)
+    requires { delimiter < 128 }
+    ensures before { result.0.now ≡ before_first (λ c. c == delimiter) text.now }
+    ensures after { result.1.now ≡ after_first (λ c. c == delimiter) text.now }
+{
+    text.split_once(delimiter).unwrap_or((text, ""))
+}
+
 // The format and the highest order that a heading names; none where it has another form.
-fn read_heading(heading: &str) -> Option<(Format, u8)> {
-    let (name, order) = heading.split_once(' ')?;
+#[tactic(auto, using(crate::proofs::Headings::no_format, crate::proofs::Headings::no_order))]
+fn read_heading(heading: &str) -> Option<(Format, u8)>
+    ensures { IsHeadedBy heading.now result }
+{
+    let (name, order) = parted(heading, ' ');
     Some((name.parse().ok()?, read_count(order)?))
 }
 
-// Works a card, given by the text after its word `card`; prints a heading that has another form.
-fn check_card(rt: &HostRuntime, tallies: &mut Tallies, card: &str) -> anyhow::Result<()> {
-    let (heading, lines) = card.split_once('\n').unwrap_or((card, ""));
+// Works a card, given by the text after its word `card`, and notes its score; prints a heading that has another form.
+#[tactic(auto, using(crate::proofs::Headings::counted_card))]
+fn check_card(rt: &HostRuntime, tallies: &mut Tallies, card: &str) -> anyhow::Result<()>
+    ensures { IfOk result (λ done. NotesCard tallies.old card.now tallies.new) }
+{
+    let (heading, text) = parted(card, '\n');
     let Some((format, k)) = read_heading(heading) else {
         println!(rt; "not a card: {heading}")?;
         return Ok(());
     };
-    let calls = match format {
-        Format::Binary64 => work_card(rt, &mut Binary64, k, lines)?,
-        Format::Decimal => work_card(rt, &mut Decimal::eight(), k, lines)?,
+    let score = match format {
+        Format::Binary64 => work_card(rt, &mut Binary64, k, text)?,
+        Format::Decimal => work_card(rt, &mut Decimal::eight(), k, text)?,
     };
-    tallies.note(format, calls);
+    tallies.note(format, score);
     Ok(())
 }
 

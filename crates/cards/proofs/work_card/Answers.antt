@@ -1,5 +1,5 @@
 -- The loop goes over the lines of the text; a line that begins with `#` is passed over, every other is checked and counted.
-use Rattle.std.proofs.Common.{◌≡◌, ◌-◌, ℕ, Bool, true, false, length, ⊎_elim, lit<, refl, ap, sym, subst, ◌∙◌, arith}
+use Rattle.std.proofs.Common.{◌≡◌, ◌-◌, true, false, length, ⊎_elim, refl, ap, sym, subst, ◌∙◌, arith}
 use Rattle.std.specs.Str.Iter.{lines_rest, lines_steps}
 use Rattle.std.specs.Str.Lines.{lines}
 use Rattle.std.proofs.lemmas.Iterator.Splits.{YieldsList-from_lines}
@@ -22,20 +22,20 @@ loop-line-init g c =
           (YieldsList-from_lines c.args.text.now (ap lines_rest c.into_iter-line-iterator.ensures.into_iter_gives ∙ c.lines-line-items.ensures.rest)) (c.make-bench.ensures.state ∙ ap new_bench made) c.new-score.ensures;
     }
 
-pub loop-line-preserved-then-not-starts_with : goal.loop-line-preserved-then-not-starts_with
-loop-line-preserved-then-not-starts_with g c =
+pub loop-line-preserved-then-not-is_comment : goal.loop-line-preserved-then-not-is_comment
+loop-line-preserved-then-not-is_comment g c =
     let same = c.loop-line.invariant.arith.same in
-    let none : is_comment c.in-Some.line.now ≡ false = sym (c.starts_with.ensures.byte (lit< tt) (lit< tt) (λ w o h. h)) ∙ c.if-not-starts_with.true in
+    let none : is_comment c.in-Some.line.now ≡ false = sym c.is_comment.ensures ∙ c.if-not-is_comment.true in
     record {
       arith = record { same = c.in_ok-check.ensures.arith.same ∙ same; law = c.in_ok-check.ensures.arith.law };
       making = subst (λ u. making_of u c.check.new.bench ≡ making_of u c.loop-line.bench) same c.in_ok-check.ensures.keeps.making ∙ c.loop-line.invariant.making;
       remains = remain_past_checked lines_steps _ _ no_answers _ _ _ same c.loop-line.bench c.check.new.bench c.loop-line.line-iterator c.next.new.self c.loop-line.score _ c.in-Some.line c.in_ok-check.field-0
-          c.loop-line.invariant.remains c.loop-line.invariant.making c.in-Some.ensures.steps none c.in_ok-check.ensures.agrees c.in_ok-check.ensures.leads c.note-then-not-starts_with.ensures;
+          c.loop-line.invariant.remains c.loop-line.invariant.making c.in-Some.ensures.steps none c.in_ok-check.ensures.agrees c.in_ok-check.ensures.leads c.note-then-not-is_comment.ensures;
     }
 
 pub loop-line-preserved : goal.loop-line-preserved
 loop-line-preserved g c =
-    let comment : is_comment c.in-Some.line.now ≡ true = sym (c.starts_with.ensures.byte (lit< tt) (lit< tt) (λ w o h. h)) ∙ c.if-not-starts_with.false in
+    let comment : is_comment c.in-Some.line.now ≡ true = sym c.is_comment.ensures ∙ c.if-not-is_comment.false in
     record {
       arith = c.loop-line.invariant.arith;
       making = c.loop-line.invariant.making;
