@@ -1,25 +1,43 @@
--- A line agrees if the answer to its call is shown as what stands after its ` = `.
-use Rattle.std.proofs.Common.{◌≡◌, ◌↔◌, ℕ, List, ◌++◌, Bool, Some, Result, Ok, Err, codes, ap, sym, ◌∙◌}
+-- Where a line tells a call, it agrees exactly if the answer to the call is shown as what is expected: the answer's text is the line of the
+-- call's entries without its end, and no other call and no other text is told. Where it tells none, it does not agree, and the state stays.
+use Rattle.std.proofs.Common.{◌≡◌, ◌↔◌, ℕ, inl, inr, List, ◌++◌, Bool, false, Result, Ok, Err, refl, ap, sym, subst, ◌∙◌}
 use Rattle.std.specs.Prelude.{IsTrue, IfOk}
-use Rattle.std.specs.Borrow.{Bor}
-use Rattle.std.specs.Str.Pattern.{FindsText, SplitsAroundMatch}
-use Rattle.std.proofs.lemmas.Str.Pattern.{split_text_parts}
+use Rattle.std.proofs.lemmas.List.{append_cancel_right}
 use Rattle.arithmetic.specs.Setting.{Setting}
+use Rattle.coefficients.specs.Calls.{Making, State}
+use Rattle.bench.specs.Benches.{making_of, state_of}
 use Rattle.bench.specs.declared.bench.Bench.{Bench}
 use Rattle.calls.specs.Entries.{entries}
-use Rattle.calls.specs.Lines.{newline}
+use Rattle.calls.specs.Lines.{newline, lines}
 use Rattle.calls.specs.Texts.{answer_text}
 use Rattle.calls.specs.Works.{Works}
 use Rattle.calls.specs.declared.answer.Answer.{Answer}
 use Rattle.calls.specs.declared.call.Call.{Call}
-use Rattle.comparison.specs.Words.{words}
-use Rattle.cards.specs.Questions.{Tells}
-use Rattle.cards.specs.Checks.{Agrees}
+use Rattle.cards.specs.Questions.{LineTells}
+use Rattle.cards.specs.Checks.{Agrees, LeadsTo}
+use Rattle.cards.proofs.Telling.{one_told, one_expected}
 
--- a line that is split around a text is parted by it
-pub parted : (p line : List ℕ) (front back : Bor (List ℕ)) → SplitsAroundMatch (FindsText p) line front.now back.now → line ≡ front.now ++ (p ++ back.now)
-parted p line front back h = split_text_parts p line (Some (front, back)) h
+-- ---- a line that tells a call, which was worked
+module _ {A N P : Type 0} {g : _} (st : Setting P) (b b' : Bench A N P g) (line expected : List ℕ) (c : Call) (answer : Answer) (told : LineTells line c expected) (works : Works st b b' (entries c) answer) where
+  -- what the line expects is the answer's text, if the line agrees
+  expected_text : Agrees (making_of st b) (state_of st b) line → answer_text answer ≡ expected
+  expected_text (d, other, tells, shown) =
+      let same : lines st.meaning (entries c (making_of st b) (state_of st b)) ≡ expected ++ newline =
+      subst (λ x. lines st.meaning (entries x (making_of st b) (state_of st b)) ≡ expected ++ newline) (one_told line d c other expected tells told)
+      (shown ∙ ap (λ t. t ++ newline) (one_expected line d c other expected tells told)) in
+      append_cancel_right (answer_text answer) expected newline (works.shown ∙ same)
 
-pub agreed : {A N P E : Type 0} {g : _} (st : Setting P) (b b' : Bench A N P g) (line question expected : List ℕ) (c : Call) (answer : Answer) (r : Result Bool E) → line ≡ question ++ (codes " = " ++ expected) → Tells (words question) c → Works st b b' (entries c) answer → IfOk r (λ agrees. IsTrue agrees ↔ (answer_text answer ≡ expected)) → IfOk r (λ agrees. IsTrue agrees → Agrees st b b' line)
-agreed st b b' line question expected c answer (Ok agrees) parting tells works shown = λ yes. (question, expected, c, parting, tells, record { shown = ap (λ t. t ++ newline) (sym (shown.0 yes)) ∙ works.shown; then = works.then; keeps = works.keeps })
-agreed st b b' line question expected c answer (Err e) parting tells works shown = tt
+  pub agreed : {E : Type 0} (r : Result Bool E) → IfOk r (λ agrees. IsTrue agrees ↔ (answer_text answer ≡ expected)) → IfOk r (λ agrees. IsTrue agrees ↔ Agrees (making_of st b) (state_of st b) line)
+  agreed (Ok agrees) shown = (λ yes. (c, expected, told, sym works.shown ∙ ap (λ t. t ++ newline) (shown.0 yes)), λ h. shown.1 (expected_text h))
+  agreed (Err e) shown = tt
+
+  pub led : LeadsTo (making_of st b) (state_of st b) line (state_of st b')
+  led = inl (c, expected, told, works.then)
+
+-- ---- a line that tells none
+module _ (b : Making) (s : State) (line : List ℕ) (none : (c : Call) (expected : List ℕ) → ¬ (LineTells line c expected)) where
+  pub untold : IsTrue false ↔ Agrees b s line
+  untold = (λ h. cc, λ h. absurd (none h.0 h.1 h.2))
+
+  pub stayed : LeadsTo b s line s
+  stayed = inr (none, refl)

@@ -1,2 +1,5 @@
 pub mod Reading
+pub mod Telling
 pub mod Agreeing
+pub mod Scoring
+pub mod Headings

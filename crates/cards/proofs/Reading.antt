@@ -9,11 +9,11 @@ use Rattle.calls.specs.declared.call.Call.TheVariants.{Add, Ask, Examine, Clear}
 use Rattle.cards.specs.Questions.{TellsOne, TellsThree, Tells, IsCallOf}
 
 -- ---- one operand. The second letters of the two names differ.
-two_names : (name : List ℕ) → name ≡ codes "add" → name ≡ codes "ask" → ⊥
+pub two_names : (name : List ℕ) → name ≡ codes "add" → name ≡ codes "ask" → ⊥
 two_names name e f = let z : ◌≡◌ {A = ℕ} 100 115 = ap (λ w. slice_index w 1) (sym e ∙ f) in absurd (omega arith)
 
 pub add_unread : (name x : List ℕ) → name ≡ codes "add" → ((p : Pattern) → ¬ (Reads x (Ok p))) → (c : Call) → ¬ (TellsOne name x c)
-add_unread name x e u (Add zero) h = u zero h.1
+add_unread name x e u (Add zero) h = u zero h.1.0
 add_unread name x e u (Ask order) h = two_names name e h.0
 add_unread name x e u (Examine order claim tolerance) h = h
 add_unread name x e u Clear h = h
@@ -42,10 +42,10 @@ module _ (name x y z : List ℕ) where
   order_unread u = unread (λ k p q h. u k h.1)
 
   pub claim_unread : ((p : Pattern) → ¬ (Reads y (Ok p))) → (c : Call) → ¬ (TellsThree name x y z c)
-  claim_unread u = unread (λ k p q h. u p h.2)
+  claim_unread u = unread (λ k p q h. u p h.2.0)
 
   pub tolerance_unread : ((p : Pattern) → ¬ (Reads z (Ok p))) → (c : Call) → ¬ (TellsThree name x y z c)
-  tolerance_unread u = unread (λ k p q h. u q h.3)
+  tolerance_unread u = unread (λ k p q h. u q h.3.0)
 
   pub other_three : name ≢ codes "mark" → (c : Call) → ¬ (TellsThree name x y z c)
   other_three n = unread (λ k p q h. n h.0)

@@ -1,17 +1,18 @@
--- When the answer to the call of a line agrees with what stands after its ` = `.
-use Rattle.std.specs.Prelude.{◌≡◌, ℕ, List, ◌++◌, codes}
-use Rattle.arithmetic.specs.Setting.{Setting}
-use Rattle.bench.specs.declared.bench.Bench.{Bench}
+-- When the answer to the call of a line agrees with what is expected of it, and how the bench stands after the line.
+use Rattle.std.specs.Prelude.{◌≡◌, ℕ, ◌⊎◌, List, ◌++◌}
+use Rattle.coefficients.specs.Calls.{Making, State}
+use Rattle.coefficients.specs.Book.{state_after}
 use Rattle.calls.specs.Entries.{entries}
-use Rattle.calls.specs.Lines.{newline}
-use Rattle.calls.specs.Works.{Shows}
+use Rattle.calls.specs.Lines.{newline, lines}
 use Rattle.calls.specs.declared.call.Call.{Call}
-use Rattle.comparison.specs.Words.{words}
-use Rattle.cards.specs.Questions.{Tells}
+use Rattle.cards.specs.Questions.{LineTells}
 
--- the line is a question, which tells a call, and what is expected of it: the line, without its end, of the entries by which the book of the
--- bench goes on
-abbrev pub Agrees : {A N P : Type 0} {g : _} → Setting P → Bench A N P g → Bench A N P g → List ℕ → Type 0
-Agrees st b b' line =
-    (question : List ℕ) × (expected : List ℕ) × (c : Call) × (line ≡ question ++ (codes " = " ++ expected)) × Tells (words question) c ×
-    Shows st b b' (entries c) (expected ++ newline)
+-- the line tells a call, and what is expected is the line, without its end, of the entries by which the book of the bench then goes on
+abbrev pub Agrees : Making → State → List ℕ → Type 0
+Agrees b s line = (c : Call) × (expected : List ℕ) × LineTells line c expected × (lines b.meaning (entries c b s) ≡ expected ++ newline)
+
+-- the state t comes after a line: the book has gone on by the entries of the call that the line tells, or not at all where it tells none
+abbrev pub LeadsTo : Making → State → List ℕ → State → Type 0
+LeadsTo b s line t =
+    ((c : Call) × (expected : List ℕ) × LineTells line c expected × (t ≡ state_after b s (entries c b s)))
+    ⊎ (((c : Call) (expected : List ℕ) → ¬ (LineTells line c expected)) × (t ≡ s))

@@ -1,3 +1,4 @@
 pub mod Tallies
 pub mod Questions
 pub mod Checks
+pub mod Cards

@@ -1,7 +1,7 @@
-// The calls of a card as they are read.
+// The calls of a card, and its lines, as they are read.
 ghost use Rattle.std.specs.Prelude.{[], ◌∷◌};
 ghost use Rattle.comparison.specs.Words.{words};
-ghost use Rattle.cards.specs.Questions.{IsCallOf};
+ghost use Rattle.cards.specs.Questions.{IsCallOf, IsToldBy};
 
 use calls::call::Call;
 use comparison::{first_words, read_count, read_pattern};
@@ -35,7 +35,7 @@ fn of_three(name: &str, order: &str, claim: &str, tolerance: &str) -> Option<Cal
 
 // The call that the words of a line tell; none where they have another form.
 #[tactic(auto, using(crate::proofs::Reading::no_name, crate::proofs::Reading::no_operand, crate::proofs::Reading::no_third, crate::proofs::Reading::too_many, crate::proofs::Reading::one_operand, crate::proofs::Reading::three_operands))]
-pub fn parse(question: &str) -> Option<Call>
+fn parse(question: &str) -> Option<Call>
     ensures { IsCallOf (words question.now) result }
 {
     let (name, first, second, third, fourth) = first_words(question);
@@ -51,4 +51,14 @@ pub fn parse(question: &str) -> Option<Call>
             }
         }
     }
+}
+
+// The call that a line tells before its first ` = `, and what is expected after it; none where the line has another form.
+#[tactic(auto, using(crate::proofs::Telling::no_parts, crate::proofs::Telling::no_call))]
+pub fn told(line: &str) -> Option<(Call, &str)>
+    ensures { IsToldBy line.now result }
+{
+    let (question, expected) = line.split_once(" = ")?;
+    let call = parse(question)?;
+    Some((call, expected))
 }

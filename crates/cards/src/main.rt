@@ -5,13 +5,17 @@
 // refusal and its details. Lines that begin with `#` are comments.
 #![tactic(auto)]
 
-ghost use Rattle.std.specs.Prelude.{IsTrue, IfOk};
-ghost use Rattle.cards.specs.Checks.{Agrees};
+ghost use Rattle.std.specs.Prelude.{◌≡◌, ◌<◌, ◌==◌, ◌↔◌, IsTrue, IfOk};
+ghost use Rattle.std.specs.List.{before_first, after_first};
+ghost use Rattle.arithmetic.specs.Setting.{Stays};
+ghost use Rattle.bench.specs.Benches.{making_of, state_of, Keeps};
+ghost use Rattle.cards.specs.Checks.{Agrees, LeadsTo};
+ghost use Rattle.cards.specs.Cards.{is_comment as comment, IsCardScore, IsHeadedBy, NotesCard};
 
 use arithmetic::Arithmetic;
 use bench::Bench;
 use binary64::Binary64;
-use call::parse;
+use call::told;
 use calls::work::work;
 use comparison::score::Score;
 use comparison::{compare, read_count};
@@ -24,8 +28,8 @@ use tally::Tallies;
 mod call;
 mod tally;
 
-// Works the call of a line and compares its answer; prints a line that has another form.
-#[tactic(auto, using(crate::proofs::Agreeing::parted, crate::proofs::Agreeing::agreed))]
+// Works the call of a line, and answers whether what it answers is what the line expects. Prints a line that does not agree, or that tells no call.
+#[tactic(auto, using(crate::proofs::Agreeing::led, crate::proofs::Agreeing::stayed))]
 fn check<A: Arithmetic>(
     rt: &HostRuntime,
     bench: &mut Bench<A>,
@@ -33,27 +37,35 @@ fn check<A: Arithmetic>(
     line: &str,
 ) -> anyhow::Result<bool>
     requires law { A.lawful arith.old }
-    ensures agrees { IfOk result (λ agrees. IsTrue agrees → Agrees (A.setting arith.old) bench.old bench.new line.now) }
-    ensures law { A.lawful arith.new }
+    ensures agrees { IfOk result (λ agrees. IsTrue agrees ↔ Agrees (making_of (A.setting arith.old) bench.old) (state_of (A.setting arith.old) bench.old) line.now) }
+    ensures leads { LeadsTo (making_of (A.setting arith.old) bench.old) (state_of (A.setting arith.old) bench.old) line.now (state_of (A.setting arith.old) bench.new) }
+    ensures keeps { Keeps (A.setting arith.old) bench.old bench.new }
+    ensures arith { Stays A.setting A.lawful arith.old arith.new }
 {
-    if let Some((question, expected)) = line.split_once(" = ")
-        && let Some(call) = parse(question)
-    {
-        let answer = work(bench, arith, call);
-        return compare(rt, &answer, expected, line);
-    }
-    println!(rt; "not a call: {line}")?;
-    Ok(false)
+    let Some((call, expected)) = told(line) else {
+        println!(rt; "not a call: {line}")?;
+        return Ok(false);
+    };
+    let answer = work(bench, arith, call);
+    compare(rt, &answer, expected, line)
 }
 
-// Works the lines of a card of highest order k; there is none of order 0 or above 64.
+// Whether a line is a comment.
+fn is_comment(line: &str) -> bool
+    ensures { result ≡ comment line.now }
+{
+    line.starts_with('#')
+}
+
+// Works the lines of a card of highest order k, given its text, but for its comments, and answers their score; there is none of order 0 or above 64.
 fn work_card<A: Arithmetic>(
     rt: &HostRuntime,
     arith: &mut A,
     k: u8,
-    lines: &str,
+    text: &str,
 ) -> anyhow::Result<Score>
     requires law { A.lawful arith.old }
+    ensures { IfOk result (λ score. IsCardScore (A.setting arith.old).meaning k text.now score) }
 {
     let mut score = Score::new();
     if k == 0 || k > 64 {
@@ -63,32 +75,47 @@ fn work_card<A: Arithmetic>(
     }
     let mut row = vec![in rt.alloc(); empty(arith); k as usize + 1]?;
     let mut bench = Bench::make(arith, &mut row, 1);
-    for line in lines.lines() {
-        if !line.starts_with('#') {
+    for line in text.lines() {
+        if !is_comment(line) {
             score.note(check(rt, &mut bench, arith, line)?);
         }
     }
     Ok(score)
 }
 
+// What stands before the first such character of a text, and what stands after it; all of the text, and nothing, where it has none.
+fn parted(text: &str, delimiter: char) -> (&str, &str)
+    requires { delimiter < 128 }
+    ensures before { result.0.now ≡ before_first (λ c. c == delimiter) text.now }
+    ensures after { result.1.now ≡ after_first (λ c. c == delimiter) text.now }
+{
+    text.split_once(delimiter).unwrap_or((text, ""))
+}
+
 // The format and the highest order that a heading names; none where it has another form.
-fn read_heading(heading: &str) -> Option<(Format, u8)> {
-    let (name, order) = heading.split_once(' ')?;
+#[tactic(auto, using(crate::proofs::Headings::no_format, crate::proofs::Headings::no_order))]
+fn read_heading(heading: &str) -> Option<(Format, u8)>
+    ensures { IsHeadedBy heading.now result }
+{
+    let (name, order) = parted(heading, ' ');
     Some((name.parse().ok()?, read_count(order)?))
 }
 
-// Works a card, given by the text after its word `card`; prints a heading that has another form.
-fn check_card(rt: &HostRuntime, tallies: &mut Tallies, card: &str) -> anyhow::Result<()> {
-    let (heading, lines) = card.split_once('\n').unwrap_or((card, ""));
+// Works a card, given by the text after its word `card`, and notes its score; prints a heading that has another form.
+#[tactic(auto, using(crate::proofs::Headings::counted_card))]
+fn check_card(rt: &HostRuntime, tallies: &mut Tallies, card: &str) -> anyhow::Result<()>
+    ensures { IfOk result (λ done. NotesCard tallies.old card.now tallies.new) }
+{
+    let (heading, text) = parted(card, '\n');
     let Some((format, k)) = read_heading(heading) else {
         println!(rt; "not a card: {heading}")?;
         return Ok(());
     };
-    let calls = match format {
-        Format::Binary64 => work_card(rt, &mut Binary64, k, lines)?,
-        Format::Decimal => work_card(rt, &mut Decimal::eight(), k, lines)?,
+    let score = match format {
+        Format::Binary64 => work_card(rt, &mut Binary64, k, text)?,
+        Format::Decimal => work_card(rt, &mut Decimal::eight(), k, text)?,
     };
-    tallies.note(format, calls);
+    tallies.note(format, score);
     Ok(())
 }
 
