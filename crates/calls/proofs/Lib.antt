@@ -1,1 +1,2 @@
 pub mod Leaving
+pub mod Shown
