@@ -6,7 +6,6 @@ use Rattle.calls.specs.Lines.{lines}
 use Rattle.sheet.specs.Layout.{Fault, Reading, ended, reads, faulty, reading}
 use Rattle.sheet.specs.Contents.{Ending, whole, broken}
 use Rattle.slips.specs.Book.{slip_entries}
-use Rattle.slips.specs.Workings.{entries_by_reading}
 
 -- the next byte to be read, the count of slips before it, the fault that was met, and the state of the bench
 pub record ReportState : Type 0 where
@@ -42,18 +41,15 @@ pub record ReportStep : Type 0 where
   pub then : ReportState
 
 -- by the reading of the next slip: its lines are written and its entries made; a fault is kept
-abbrev pub answer_by_reading : Making → State → Reading → ReportAnswer
-answer_by_reading b s ended = wrote []
-answer_by_reading b s (reads p end) = wrote (lines b.meaning (slip_entries p b s))
-answer_by_reading b s (faulty f) = stopped_at f
-
-abbrev pub state_by_reading : Making → ReportState → Reading → ReportState
-state_by_reading b s ended = s
-state_by_reading b s (reads p end) = record { byte = end; slips = suc s.slips; fault = None; state = state_after b s.state (slip_entries p b s.state) }
-state_by_reading b s (faulty f) = record { byte = s.byte; slips = s.slips; fault = Some f; state = s.state }
-
 abbrev pub step_by_reading : Making → ReportState → Reading → ReportStep
-step_by_reading b s r = record { answer = answer_by_reading b s.state r; entries = entries_by_reading b s.state r; then = state_by_reading b s r }
+step_by_reading b s ended = record { answer = wrote []; entries = []; then = s }
+step_by_reading b s (reads p end) =
+    record {
+      answer = wrote (lines b.meaning (slip_entries p b s.state));
+      entries = slip_entries p b s.state;
+      then = record { byte = end; slips = suc s.slips; fault = None; state = state_after b s.state (slip_entries p b s.state) };
+    }
+step_by_reading b s (faulty f) = record { answer = stopped_at f; entries = []; then = record { byte = s.byte; slips = s.slips; fault = Some f; state = s.state } }
 
 -- a fault that was met is told again
 abbrev pub step_by_fault : Making → List ℕ → ReportState → Option Fault → ReportStep
