@@ -1,16 +1,17 @@
 -- Lines are counted as they come from an iterator: what is scored of those that are left, from the state and the score that have been come to,
 -- is scored of all of them, from the first state and score.
-use Rattle.std.proofs.Common.{◌≡◌, ◌↔◌, ℕ, Bool, true, false, not, cond, Option, Some, None, List, [], ◌∷◌, Bor, refl, ap, sym, subst, ◌∙◌}
+use Rattle.std.proofs.Common.{◌≡◌, ◌↔◌, ℕ, ◌+◌, ◌-◌, arith, Bool, true, false, not, cond, Option, Some, None, List, [], ◌∷◌, Bor, refl, ap, sym, subst, ◌∙◌}
 use Rattle.std.specs.Prelude.{IsTrue}
 use Rattle.std.proofs.lemmas.Iterator.{YieldsList}
-use Rattle.arithmetic.specs.Setting.{Setting}
-use Rattle.coefficients.specs.Calls.{Making, State}
-use Rattle.bench.specs.Benches.{making_of, state_of}
+use Rattle.arithmetic.specs.Meaning.{Meaning}
+use Rattle.arithmetic.specs.Setting.{Setting, Stays}
+use Rattle.coefficients.specs.Calls.{Making, State, new_bench}
+use Rattle.bench.specs.Benches.{making_of, state_of, Keeps}
 use Rattle.bench.specs.declared.bench.Bench.{Bench}
 use Rattle.comparison.specs.Scores.{counted}
 use Rattle.comparison.specs.declared.score.Score.{Score}
 use Rattle.cards.specs.Checks.{Agrees, LeadsTo}
-use Rattle.cards.specs.Cards.{is_comment, without_comments, Scored}
+use Rattle.cards.specs.Cards.{is_comment, without_comments, Scored, card_making}
 
 -- some lines are left to the iterator, and the score of them leads to that of all
 pub record Remains {I : Type 0} (steps : I → Option (Bor (List ℕ)) → I → Type 0) (b : Making) (first : State) (before : Score) (all : List (List ℕ)) (i : I) (s : State) (score : Score) : Type 0 where
@@ -60,12 +61,30 @@ module _ {I : Type 0} (steps : I → Option (Bor (List ℕ)) → I → Type 0) (
           scored = λ after h. r.scored after (subst (λ l. Scored b s score l after) (sym (ap without_comments k.1 ∙ split_off line.now k.0 false none)) (agrees, t, agreed, leads, h));
         }
 
-  -- the same where the line was checked on a bench: the state is that of the bench, by an arithmetic that is set as before
+  -- after a line that the code has told to be a comment
+  pub remain_past_told : (i j : I) (s : State) (score : Score) → Remains steps b first before all i s score → (line : Bor (List ℕ)) → steps i (Some line) j → (told : Bool) → told ≡ is_comment line.now → told ≡ true → Remains steps b first before all j s score
+  remain_past_told i j s score r line step told is value = remain_past_comment i j s score r line step (sym is ∙ value)
+
+  -- after a line that was checked on a bench and counted: the state is that of the bench, by an arithmetic that is set as before
   module _ {A N P : Type 0} {g : _} (st st' : Setting P) (same : st' ≡ st) (bench bench' : Bench A N P g) (i j : I) (score score' : Score) (line : Bor (List ℕ)) (agrees : Bool) where
-    pub remain_past_checked : Remains steps b first before all i (state_of st bench) score → making_of st bench ≡ b → steps i (Some line) j → is_comment line.now ≡ false
+    pub remain_past_checked : Remains steps b first before all i (state_of st bench) score → making_of st bench ≡ b → steps i (Some line) j → (told : Bool) → told ≡ is_comment line.now → told ≡ false
         → IsTrue agrees ↔ Agrees (making_of st' bench) (state_of st' bench) line.now → LeadsTo (making_of st' bench) (state_of st' bench) line.now (state_of st' bench') → score' ≡ counted score agrees
         → Remains steps b first before all j (state_of st bench') score'
-    remain_past_checked r making step none agreed leads counts =
+    remain_past_checked r making step told is value agreed leads counts =
         let agreed_here = subst (λ m. IsTrue agrees ↔ Agrees m (state_of st bench) line.now) making (subst (λ u. IsTrue agrees ↔ Agrees (making_of u bench) (state_of u bench) line.now) same agreed) in
         let leads_here = subst (λ m. LeadsTo m (state_of st bench) line.now (state_of st bench')) making (subst (λ u. LeadsTo (making_of u bench) (state_of u bench) line.now (state_of u bench')) same leads) in
-        subst (λ x. Remains steps b first before all j (state_of st bench') x) (sym counts) (remain_past_counted i j (state_of st bench) score r line agrees (state_of st bench') step none agreed_here leads_here)
+        subst (λ x. Remains steps b first before all j (state_of st bench') x) (sym counts) (remain_past_counted i j (state_of st bench) score r line agrees (state_of st bench') step (sym is ∙ value) agreed_here leads_here)
+
+-- ---- what stays of the arithmetic and of the bench
+pub stays_on : {S P : Type 0} (setting : S → Setting P) (lawful : S → Type 0) (x y z : S) → Stays setting lawful x y → Stays setting lawful y z → Stays setting lawful x z
+stays_on setting lawful x y z f g = record { same = g.same ∙ f.same; law = g.law }
+
+pub keeps_making : {A N P : Type 0} {g : _} (st st' : Setting P) (bench bench' : Bench A N P g) (b : Making) → st' ≡ st → Keeps st' bench bench' → making_of st bench ≡ b → making_of st bench' ≡ b
+keeps_making st st' bench bench' b same keeps making = subst (λ u. making_of u bench' ≡ making_of u bench) same keeps.making ∙ making
+
+-- ---- the bench of a card of k + 1 cells
+pub made_for_card : (m : Meaning) (made : Making) (cells k : ℕ) → made ≡ record { meaning = m; bench_number = 1; K = cells - 1 } → cells ≡ k + 1 → made ≡ card_making m k
+made_for_card m made cells k is long = let highest : cells - 1 ≡ k = omega (arith, long) in is ∙ ap (card_making m) highest
+
+pub new_for_card : (made card : Making) (s : State) → s ≡ new_bench made → made ≡ card → s ≡ new_bench card
+new_for_card made card s new is = new ∙ ap new_bench is

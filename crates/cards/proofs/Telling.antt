@@ -70,14 +70,14 @@ one_call (name ∷ x ∷ y ∷ z ∷ w ∷ more) c d f g = absurd f
 -- ---- the line
 module _ (line : List ℕ) (c d : Call) (expected expected' : List ℕ) (f : LineTells line c expected) (g : LineTells line d expected') where
   pub one_told : c ≡ d
-  one_told = one_call (words f.0) c d f.2 (subst (λ q. Tells (words q) d) (one_front (codes " = ") line g.0 expected' f.0 expected g.1 f.1) g.2)
+  one_told = one_call (words f.question) c d f.tells (subst (λ q. Tells (words q) d) (one_front (codes " = ") line g.question expected' f.question expected g.parts f.parts) g.tells)
 
   pub one_expected : expected ≡ expected'
-  one_expected = one_back (codes " = ") line f.0 expected g.0 expected' f.1 g.1
+  one_expected = one_back (codes " = ") line f.question expected g.question expected' f.parts g.parts
 
 -- ---- a line that tells no call
 pub no_parts : (line : List ℕ) → FindsText (codes " = ") line None → (c : Call) (expected : List ℕ) → ¬ (LineTells line c expected)
-no_parts line none c expected told = none told.1.0 (omega (arith, told.1.5, told.1.7)) (drop told.1.1 line) told.1.2.1.split
+no_parts line none c expected told = none told.parts.0 (omega (arith, told.parts.5, told.parts.7)) (drop told.parts.1 line) told.parts.2.1.split
 
 pub no_call : (line question expected : List ℕ) → SplitsAroundMatch (FindsText (codes " = ")) line question expected → ((c : Call) → ¬ (Tells (words question) c)) → (c : Call) (other : List ℕ) → ¬ (LineTells line c other)
-no_call line question expected parts none c other told = none c (subst (λ q. Tells (words q) c) (one_front (codes " = ") line told.0 other question expected told.1 parts) told.2)
+no_call line question expected parts none c other told = none c (subst (λ q. Tells (words q) c) (one_front (codes " = ") line told.question other question expected told.parts parts) told.tells)

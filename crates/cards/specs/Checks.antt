@@ -8,8 +8,11 @@ use Rattle.calls.specs.declared.call.Call.{Call}
 use Rattle.cards.specs.Questions.{LineTells}
 
 -- the line tells a call, and what is expected is the line, without its end, of the entries by which the book of the bench then goes on
-abbrev pub Agrees : Making → State → List ℕ → Type 0
-Agrees b s line = (c : Call) × (expected : List ℕ) × LineTells line c expected × (lines b.meaning (entries c b s) ≡ expected ++ newline)
+pub record Agrees (b : Making) (s : State) (line : List ℕ) : Type 0 where
+  pub call : Call
+  pub expected : List ℕ
+  pub told : LineTells line call expected
+  pub shown : lines b.meaning (entries call b s) ≡ expected ++ newline
 
 -- the state t comes after a line: the book has gone on by the entries of the call that the line tells, or not at all where it tells none
 abbrev pub LeadsTo : Making → State → List ℕ → State → Type 0

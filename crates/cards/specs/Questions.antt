@@ -40,8 +40,10 @@ abbrev pub IsCallOf : List (List ℕ) → Option Call → Type 0
 IsCallOf ws r = MatchOption r ((c : Call) → ¬ (Tells ws c)) (λ c. Tells ws c)
 
 -- a line is parted at its first ` = `: the words before it tell the call, and what follows it is expected
-abbrev pub LineTells : List ℕ → Call → List ℕ → Type 0
-LineTells line c expected = (question : List ℕ) × SplitsAroundMatch (FindsText (codes " = ")) line question expected × Tells (words question) c
+pub record LineTells (line : List ℕ) (c : Call) (expected : List ℕ) : Type 0 where
+  pub question : List ℕ
+  pub parts : SplitsAroundMatch (FindsText (codes " = ")) line question expected
+  pub tells : Tells (words question) c
 
 -- the call that a line tells, and what is expected of it; none where it tells none
 abbrev pub IsToldBy : List ℕ → Option (Call × Bor (List ℕ)) → Type 0

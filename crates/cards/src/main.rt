@@ -29,7 +29,6 @@ mod call;
 mod tally;
 
 // Works the call of a line, and answers whether what it answers is what the line expects. Prints a line that does not agree, or that tells no call.
-#[tactic(auto, using(crate::proofs::Agreeing::led, crate::proofs::Agreeing::stayed))]
 fn check<A: Arithmetic>(
     rt: &HostRuntime,
     bench: &mut Bench<A>,
