@@ -1,11 +1,11 @@
 -- An addition keeps a row whose plain cells are all as the arithmetic writes them: those that it writes are written so, and the others are
 -- as they were.
-use Rattle.std.proofs.Common.{◌≡◌, ℕ, zero, suc, ◌+◌, ◌-◌, ◌<◌, ◌≤◌, List, [], ◌∷◌, length, map, get_or, take, drop, ℤ, ◌⊎◌, inl, inr, Ok, Err, Result, sym, refl, ap, ◌∙◌, subst, arith, get_or-take, get_or-drop}
+use Rattle.std.proofs.Common.{◌≡◌, ℕ, zero, suc, ◌-◌, ◌<◌, ◌≤◌, List, [], ◌∷◌, length, get_or, drop, ℤ, ◌⊎◌, inl, inr, Ok, Err, Result, sym, refl, ap, ◌∙◌, subst, arith, get_or-take, get_or-drop}
 use Rattle.std.proofs.lemmas.Bool.{cases_lt}
 use Rattle.arithmetic.specs.Setting.{Setting}
 use Rattle.row.specs.declared.cell.Cell.{Cell}
 use Rattle.row.specs.declared.cell.OutOfRange.{OutOfRange}
-use Rattle.row.specs.Reading.{reading, readings, plain_cell, Canonical, AreCanonical}
+use Rattle.row.specs.Reading.{Canonical, AreCanonical}
 use Rattle.row.specs.Answers.{Added}
 
 module _ {P : Type 0} (st : Setting P) where

@@ -1,19 +1,19 @@
 -- Which plain cells a call leaves, read off its entries: an addition is answered with the next number or refused, a clearing is accepted or
 -- refused, and the other calls write none.
-use Rattle.std.proofs.Common.{◌≡◌, ℕ, zero, suc, ◌+◌, ◌-◌, ◌<◌, ◌≤◌, min, ◌⊎◌, inl, inr, Bool, true, false, cond, ◌&&◌, ◌||◌, T, leb, ltb, eqb, List, [], ◌∷◌, length, get_or, take, drop, sym, refl, ap, ◌∙◌, subst, arith, get_or-take, get_or-drop}
+use Rattle.std.proofs.Common.{◌≡◌, ℕ, zero, suc, ◌-◌, ◌<◌, ◌≤◌, min, ◌⊎◌, inl, inr, Bool, true, false, cond, ◌&&◌, ◌||◌, leb, ltb, eqb, List, [], ◌∷◌, length, get_or, take, drop, sym, refl, ap, ◌∙◌, subst, arith, get_or-take, get_or-drop}
 use Rattle.std.proofs.lemmas.Bool.{cases_lt}
 use Rattle.integers.proofs.Tests.{leb_yes}
 use Rattle.arithmetic.specs.Meaning.{Admission, number, not_admitted}
 use Rattle.arithmetic.specs.Operations.{in_limits}
 use Rattle.arithmetic.specs.Setting.{Setting}
 use Rattle.coefficients.specs.Row.{Update, written, refused_at, row_after, new_row}
-use Rattle.coefficients.specs.Calls.{Making, State, Step, Answer, added, cleared, refused, step, refuse, add_updated, add_admitted, add, clear}
+use Rattle.coefficients.specs.Calls.{Making, State, Answer, added, cleared, refused, step, refuse, add_updated, add_admitted, add, clear}
 use Rattle.coefficients.specs.Book.{Entry, accepted}
 use Rattle.row.specs.declared.cell.Cell.{Cell}
 use Rattle.bench.specs.Benches.{making_of, state_of, AnswersCall, Keeps, AdditionLeaves, ClearingLeaves}
 use Rattle.bench.specs.declared.bench.Bench.{Bench}
 use Rattle.calls.specs.Entries.{alone}
-use Rattle.calls.specs.Cells.{writes, changes, any_writes, any_changes, Leaves}
+use Rattle.calls.specs.Cells.{Leaves}
 use Rattle.calls.specs.Works.{GoesOn}
 
 pub same_left : {P : Type 0} (K : ℕ) (es : List Entry) (old new : List (Cell P)) → new ≡ old → Leaves K es old new

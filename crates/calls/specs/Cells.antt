@@ -36,7 +36,7 @@ any_changes (e ∷ es) = changes e.answer || any_changes es
 
 -- the plain cells before and after the calls of some entries, with the highest order K
 pub record Leaves {P : Type 0} (K : ℕ) (es : List Entry) (old new : List (Cell P)) : Type 0 where
-  -- where no addition and no clearing is accepted, all are as they were
+  -- where no addition and no clearing is accepted, all are as they were (so much follows from the other, if the row has kept its length)
   pub all : any_changes es ≡ false → new ≡ old
   -- the cell of an order that no entry writes is as it was
   pub others : (j : ℕ) (d : Cell P) → j < length old → any_writes K j es ≡ false → slice_index_or new j d ≡ slice_index_or old j d

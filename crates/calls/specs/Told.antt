@@ -35,7 +35,7 @@ told Cleared = record { number = 0; values = no_values }
 told (Refused refusal) = record { number = refusal_number refusal; values = details (refusal_details refusal) }
 
 -- ---- what entries tell
--- the order that a call is for, if it is for one
+-- the order that a call is for; 0 for an addition and a clearing, of which no order is told
 abbrev pub order_of : Call → ℕ
 order_of (add zero) = 0
 order_of clear = 0

@@ -1,5 +1,5 @@
 -- What a call answers and leaves: the book of the bench goes on by its entries.
-use Rattle.std.specs.Prelude.{◌≡◌, ℕ, List, [], ◌∷◌}
+use Rattle.std.specs.Prelude.{◌≡◌, List, [], ◌∷◌}
 use Rattle.arithmetic.specs.Setting.{Setting}
 use Rattle.coefficients.specs.Calls.{Making, State}
 use Rattle.coefficients.specs.Book.{Entry, state_after}

@@ -2,7 +2,7 @@
 // the output fails.
 #![tactic(auto)]
 
-ghost use Rattle.std.specs.Prelude.{◌≡◌, IfOk, IfSome};
+ghost use Rattle.std.specs.Prelude.{◌≡◌, IfOk, IfSome, take};
 ghost use Rattle.report.specs.Report.{report};
 
 use report::printer::Printer;
@@ -11,9 +11,10 @@ use sheet::opening::LONGEST;
 use std::alloc::Global;
 use std::io::{self, BufWriter, Read};
 
-// Reads the sheet that an input holds: of one that is too long only one byte more than the longest, which has the same report.
+// Reads the sheet that an input holds: of one that is too long 32,769 bytes, one more than the longest has. They have the same report.
 fn read_sheet<R: Read + Drop>(alloc: Global, input: R) -> io::Result<Vec<u8>>
-    ensures { IfOk result (λ sheet. IfSome (R.remaining input) (λ held. report sheet.items ≡ report held)) }
+    ensures bytes { IfOk result (λ sheet. IfSome (R.remaining input) (λ held. sheet.items ≡ take 32769 held)) }
+    ensures reported { IfOk result (λ sheet. IfSome (R.remaining input) (λ held. report sheet.items ≡ report held)) }
 {
     let mut sheet = Vec::new(alloc);
     input.take(LONGEST as u64 + 1).read_to_end(&mut sheet)?;

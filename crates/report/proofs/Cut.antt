@@ -26,14 +26,19 @@ report_cut s = go (leb (length s) 32768) refl
         let l : 32769 ≤ length s = lt_of_not-le (λ n. subst T e (le→leb (length s) 32768 n)) in
         too_long (take 32769 s) (let m : length (take 32769 s) ≡ 32769 = length-take-le 32769 s l in omega (arith, m)) ∙ sym (too_long s l)
 
--- what is read through a limit of an input that is known, up to its end, has the report of all that the input holds
-pub report_of_read : {R : Type 0} (remaining : R → Option (List ℕ)) (input : R) (limited : Take R) (before after : List ℕ) →
-    take_inner limited ≡ input → take_limit limited ≡ 32769 → before ≡ [] →
-    IfSome (take_remaining remaining limited) (λ xs. after ≡ before ++ xs) →
-    IfSome (remaining input) (λ held. report after ≡ report held)
-report_of_read remaining input limited before after i l n h =
-    go (remaining input) (subst (λ o. IfSome o (λ xs. after ≡ before ++ xs)) (ap (λ k. option_map (take k) (remaining (take_inner limited))) l ∙ ap (λ z. option_map (take 32769) (remaining z)) i) h)
-  where
-    go : (known : Option (List ℕ)) → IfSome (option_map (take 32769) known) (λ xs. after ≡ before ++ xs) → IfSome known (λ held. report after ≡ report held)
-    go None h = tt
-    go (Some s) h = ap report (h ∙ ap (λ b. b ++ take 32769 s) n) ∙ report_cut s
+-- what is read through a limit of an input that is known, up to its end, is its beginning, and has the report of all that the input holds
+module _ {R : Type 0} (remaining : R → Option (List ℕ)) (input : R) (limited : Take R) (before after : List ℕ) (i : take_inner limited ≡ input) (l : take_limit limited ≡ 32769) (n : before ≡ [])
+    (h : IfSome (take_remaining remaining limited) (λ xs. after ≡ before ++ xs)) where
+  pub bytes_read : IfSome (remaining input) (λ held. after ≡ take 32769 held)
+  bytes_read = go (remaining input) (subst (λ o. IfSome o (λ xs. after ≡ before ++ xs)) (ap (λ k. option_map (take k) (remaining (take_inner limited))) l ∙ ap (λ z. option_map (take 32769) (remaining z)) i) h)
+    where
+      go : (known : Option (List ℕ)) → IfSome (option_map (take 32769) known) (λ xs. after ≡ before ++ xs) → IfSome known (λ held. after ≡ take 32769 held)
+      go None h = tt
+      go (Some s) h = h ∙ ap (λ b. b ++ take 32769 s) n
+
+  pub report_of_read : IfSome (remaining input) (λ held. report after ≡ report held)
+  report_of_read = go (remaining input) bytes_read
+    where
+      go : (known : Option (List ℕ)) → IfSome known (λ held. after ≡ take 32769 held) → IfSome known (λ held. report after ≡ report held)
+      go None e = tt
+      go (Some s) e = ap report e ∙ report_cut s

@@ -3,9 +3,10 @@ use Rattle.std.specs.Prelude.{◌≡◌, ℕ, List, ◌++◌, length, drop, Opti
 use Rattle.arithmetic.specs.Setting.{Setting}
 use Rattle.bench.specs.Benches.{making_of, state_of}
 use Rattle.bench.specs.declared.bench.Bench.{Bench}
-use Rattle.sheet.specs.Layout.{Fault, Reading, reading}
+use Rattle.sheet.specs.Layout.{Fault, Reading}
 use Rattle.sheet.specs.Faults.{told_fault}
 use Rattle.sheet.specs.declared.fault.SheetFault.{SheetFault}
+use Rattle.slips.specs.Workings.{next_reading as reading_at}
 use Rattle.report.specs.Steps.{ReportState, ReportAnswer, no_room, wrote, stopped_at, ReportStep, step_by_reading, report_step}
 use Rattle.report.specs.declared.report.Report.{Report}
 use Rattle.report.specs.declared.refusal.Unreported.{Unreported}
@@ -18,11 +19,8 @@ told_kept (Some f) = Some (told_fault f)
 
 -- ---- where a report and its bench stand
 -- at a byte, after so many slips, with the fault that was met
-abbrev pub report_state_at : {A N P : Type 0} {g : _} → Setting P → ℕ → ℕ → Option SheetFault → Bench A N P g → ReportState
-report_state_at st byte slips fault bench = record { byte = byte; slips = slips; fault = told_kept fault; state = state_of st bench }
-
 abbrev pub report_state : {A N P : Type 0} {g : _} → Setting P → Report → Bench A N P g → ReportState
-report_state st r bench = report_state_at st r.reader.at r.reader.slips r.fault bench
+report_state st r bench = record { byte = r.reader.at; slips = r.reader.slips; fault = told_kept r.fault; state = state_of st bench }
 
 -- the report call that is defined for them, with a line buffer of so many bytes
 abbrev pub step_of : {A N P : Type 0} {g : _} → Setting P → Report → Bench A N P g → ℕ → ReportStep
@@ -30,7 +28,7 @@ step_of st r bench room = report_step (making_of st bench) r.reader.bytes.now ro
 
 -- the next reading of a report, and the report call by it: what is defined where no fault was met and the line buffer fits
 abbrev pub next_reading : {P : Type 0} → Setting P → Report → Reading
-next_reading st r = reading st.meaning r.reader.bytes.now r.reader.at r.reader.slips
+next_reading st r = reading_at st r.reader
 
 abbrev pub slip_step : {A N P : Type 0} {g : _} → Setting P → Report → Bench A N P g → ReportStep
 slip_step st r bench = step_by_reading (making_of st bench) (report_state st r bench) (next_reading st r)

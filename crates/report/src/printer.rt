@@ -7,7 +7,7 @@ use crate::sink::Sink;
 use std::io::{self, ErrorKind, Write};
 
 // Writes what is put. It refuses where the writer fails, where the writer takes no more bytes, and after 2⁶⁴ − 1 writes that were interrupted
-// or took a part of the bytes.
+// or took a part of the bytes. (That it refuses nowhere else no contract says, since none of a writer says when it fails.)
 #[derive(Drop)]
 pub struct Printer<W: Write + Drop> {
     out: W,
@@ -20,7 +20,7 @@ impl<W: Write + Drop> Printer<W> {
         Printer { out }
     }
 
-    // Passes on what the writer holds back.
+    // Flushes the writer, which may hold bytes back. Of known contents it says that they stay, and no more.
     pub fn flush(&mut self) -> io::Result<()>
         ensures { Keeps (W.contents self.old.out) (W.contents self.new.out) }
     {

@@ -25,7 +25,7 @@ use sheet::Sheet;
 use sheet::format::Format;
 
 // Puts a text, and answers its length.
-fn write<S: Sink>(text: &[u8], out: &mut S) -> Result<usize, S::Refusal>
+fn put_text<S: Sink>(text: &[u8], out: &mut S) -> Result<usize, S::Refusal>
     ensures written { Puts S.takes out.old out.new text.now result }
     ensures length { IfOk result (λ n. n ≡ length text.now) }
 {
@@ -60,7 +60,7 @@ fn write_slip<A: Arithmetic, S: Sink>(
     if length == 0 {
         return Ok(0);
     }
-    write(&buffer[..length], out)
+    put_text(&buffer[..length], out)
 }
 
 // Puts the lines of all slips of a sheet, and answers the report where it ends, and their length.
@@ -98,7 +98,7 @@ fn write_last<S: Sink>(report: &Report<'_>, out: &mut S) -> Result<usize, S::Ref
 {
     let mut buffer = [0; LEAST_BUFFER];
     match report.last(&mut buffer) {
-        Ok(length) => write(&buffer[..length], out),
+        Ok(length) => put_text(&buffer[..length], out),
         Err(_) => unreachable!(),
     }
 }
@@ -150,7 +150,7 @@ pub fn report_sheet<S: Sink>(sheet: &[u8], out: &mut S) -> Result<usize, S::Refu
     ensures law { ReportLaw sheet.now }
 {
     match Sheet::open(sheet) {
-        Err(fault) => write(line_of_fault(fault).as_str().as_bytes(), out),
+        Err(fault) => put_text(line_of_fault(fault).as_str().as_bytes(), out),
         Ok(sheet) => match sheet.format {
             Format::Binary64 => {
                 let mut cells = [empty(&Binary64); 65];

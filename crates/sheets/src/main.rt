@@ -4,15 +4,16 @@
 // digits and after them so many copies of the last, the count in four hexadecimal digits. Lines that begin with `#` are printed as they are.
 #![tactic(auto)]
 
-ghost use Rattle.std.specs.Prelude.{◌++◌, None};
+ghost use Rattle.std.specs.Prelude.{◌≡◌, ◌++◌, None};
+ghost use Rattle.std.specs.Option.{option_map};
 ghost use Rattle.calls.specs.Lines.{newline};
 ghost use Rattle.report.specs.Puts.{Puts};
-ghost use Rattle.sheets.specs.Sheets.{shown, shown_sheet};
+ghost use Rattle.comparison.specs.Words.{words};
+ghost use Rattle.sheets.specs.Sheets.{told, shown, shown_sheet};
 
 use line::read;
 use report::printer::Printer;
 use report::{Sink, report_sheet};
-use std::alloc::Global;
 use std::io;
 
 mod line;
@@ -33,18 +34,19 @@ fn put_no_sheet<S: Sink>(line: &str, out: &mut S) -> Result<(), S::Refusal>
     put_line(line, out)
 }
 
-// Puts a comment as it is, or the report of the sheet that a line tells; says so of a line that tells none. An error is memory that was
-// refused or the sink's own; what was put by then is a beginning.
-fn show<S: Sink<Refusal = io::Error>>(alloc: Global, line: &str, out: &mut S) -> io::Result<()>
+// Puts a comment as it is, or the report of the sheet that a line tells; says so of a line that tells none. An error is the sink's own: what
+// was put by then is a beginning.
+fn show<S: Sink>(line: &str, sheet: Option<&[u8]>, out: &mut S) -> Result<(), S::Refusal>
+    requires { option_map (λ s. s.now) sheet ≡ told (words line.now) }
     ensures { Puts S.takes out.old out.new (shown line.now) result }
 {
     if line.starts_with('#') {
         return put_line(line, out);
     }
-    let Some(sheet) = read(alloc, line)? else {
+    let Some(sheet) = sheet else {
         return put_no_sheet(line, out);
     };
-    report_sheet(&sheet, out)?;
+    report_sheet(sheet, out)?;
     Ok(())
 }
 
@@ -52,7 +54,8 @@ fn main(rt: HostRuntime) -> io::Result<()> {
     let text = io::read_to_string(rt.alloc(), rt.stdin())?;
     let mut out = Printer::new(rt.stdout());
     for line in text.lines() {
-        show(rt.alloc(), line, &mut out)?;
+        let sheet = read(rt.alloc(), line)?;
+        show(line, sheet.as_deref(), &mut out)?;
     }
     out.flush()
 }
