@@ -3,7 +3,7 @@ use Rattle.std.proofs.Common.{◌≡◌, ℕ, ◌≢◌, List, [], ◌∷◌, Op
 use Rattle.patterns.specs.Patterns.{Reads}
 use Rattle.patterns.specs.declared.Pattern.{Pattern}
 use Rattle.comparison.specs.Words.{Counts}
-use Rattle.comparison.proofs.Places.{not_there, two_words, four_words}
+use Rattle.comparison.proofs.Places.{not_there, two_words, four_words, no_first, no_second}
 use Rattle.calls.specs.declared.call.Call.{Call}
 use Rattle.calls.specs.declared.call.Call.TheVariants.{Add, Ask, Examine, Clear}
 use Rattle.cards.specs.Questions.{TellsOne, TellsThree, Tells, IsCallOf}
@@ -52,13 +52,10 @@ module _ (name x y z : List ℕ) where
 
 -- ---- by the count of words
 pub no_name : (ws : List (List ℕ)) → None ≡ slice_get ws 0 → (c : Call) → ¬ (Tells ws c)
-no_name [] e c h = h
-no_name (name ∷ ws) e c h = absurd (not_there (sym e))
+no_name = no_first Tells (λ c h. h)
 
 pub no_operand : (ws : List (List ℕ)) → None ≡ slice_get ws 1 → (c : Call) → ¬ (Tells ws c)
-no_operand [] e c h = h
-no_operand (name ∷ []) e c h = h
-no_operand (name ∷ x ∷ ws) e c h = absurd (not_there (sym e))
+no_operand = no_second Tells (λ c h. h) (λ name c h. h)
 
 pub no_third : (ws : List (List ℕ)) (y : List ℕ) → Some y ≡ slice_get ws 2 → None ≡ slice_get ws 3 → (c : Call) → ¬ (Tells ws c)
 no_third [] y e f c h = h

@@ -5,11 +5,9 @@ use Rattle.std.specs.List.{before_first, after_first}
 use Rattle.std.specs.Str.Lines.{lines}
 use Rattle.arithmetic.specs.Meaning.{Meaning}
 use Rattle.coefficients.specs.Calls.{Making, State, new_bench}
-use Rattle.binary64.specs.Patterns.{meaning as meaning_of_binary64}
-use Rattle.scientific.specs.Patterns.{meaning as meaning_of_decimal}
-use Rattle.sheet.specs.Formats.{format_name}
-use Rattle.sheet.specs.declared.format.Format.{Format}
-use Rattle.sheet.specs.declared.format.Format.TheVariants.{Binary64, Decimal}
+use Rattle.formats.specs.Formats.{meaning_of}
+use Rattle.formats.specs.Words.{told_format, format_name}
+use Rattle.formats.specs.declared.Format.{Format}
 use Rattle.comparison.specs.Words.{Counts}
 use Rattle.comparison.specs.Scores.{no_answers, counted}
 use Rattle.comparison.specs.declared.score.Score.{Score}
@@ -50,13 +48,8 @@ Heads heading format k = (before_first (λ c. c == 32) heading ≡ format_name f
 abbrev pub IsHeadedBy : List ℕ → Option (Format × ℕ) → Type 0
 IsHeadedBy heading r = MatchOption r ((format : Format) (k : ℕ) → ¬ (Heads heading format k)) (λ p. Heads heading p.0 p.1)
 
--- the meaning of the arithmetic of a format; decimal has eight digits
-abbrev pub meaning_of : Format → Meaning
-meaning_of Binary64 = meaning_of_binary64
-meaning_of Decimal = meaning_of_decimal 8
-
 -- from one state of the tallies to another, a card is noted with its score; a text whose first line is no heading is not
 abbrev pub NotesCard : Tallies → List ℕ → Tallies → Type 0
 NotesCard before card after =
-    ((format : Format) × (k : ℕ) × (score : Score) × Heads (before_first (λ c. c == 10) card) format k × IsCardScore (meaning_of format) k (after_first (λ c. c == 10) card) score × (after ≡ noted_of before format score))
+    ((format : Format) × (k : ℕ) × (score : Score) × Heads (before_first (λ c. c == 10) card) format k × IsCardScore (meaning_of (told_format format)) k (after_first (λ c. c == 10) card) score × (after ≡ noted_of before format score))
     ⊎ (((format : Format) (k : ℕ) → ¬ (Heads (before_first (λ c. c == 10) card) format k)) × (after ≡ before))

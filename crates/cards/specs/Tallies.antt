@@ -2,8 +2,8 @@
 use Rattle.std.specs.Prelude.{◌==◌}
 use Rattle.comparison.specs.Scores.{no_answers, counted, gathered}
 use Rattle.comparison.specs.declared.score.Score.{Score}
-use Rattle.sheet.specs.declared.format.Format.{Format}
-use Rattle.sheet.specs.declared.format.Format.TheVariants.{Binary64, Decimal}
+use Rattle.formats.specs.declared.Format.{Format}
+use Rattle.formats.specs.declared.Format.TheVariants.{Binary64, Decimal}
 use Rattle.cards.specs.declared.tally.Tally.{Tally}
 use Rattle.cards.specs.declared.tally.Tallies.{Tallies}
 

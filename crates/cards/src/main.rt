@@ -20,8 +20,8 @@ use calls::work::work;
 use comparison::score::Score;
 use comparison::{compare, read_count};
 use decimal::Decimal;
+use formats::Format;
 use row::empty;
-use sheet::format::Format;
 use std::io;
 use tally::Tallies;
 

@@ -3,7 +3,7 @@ ghost use Rattle.std.specs.Prelude.{◌≡◌};
 ghost use Rattle.cards.specs.Tallies.{no_cards, noted, no_tallies, noted_of};
 
 use comparison::score::Score;
-use sheet::format::Format;
+use formats::Format;
 use std::fmt;
 
 // The cards and the calls of an arithmetic. A card agrees if each of its calls does.

@@ -27,3 +27,14 @@ three_words (x ∷ ws) a b c e f g h = put (same e) (two_words ws b c f g h)
 pub four_words : {X : Type 0} (ws : List X) (a b c d : X) → Some a ≡ slice_get ws 0 → Some b ≡ slice_get ws 1 → Some c ≡ slice_get ws 2 → Some d ≡ slice_get ws 3 → None ≡ slice_get ws 4 → ws ≡ a ∷ b ∷ c ∷ d ∷ []
 four_words [] a b c d e f g h i = absurd (not_there e)
 four_words (x ∷ ws) a b c d e f g h i = put (same e) (three_words ws b c d f g h i)
+
+-- ---- nothing is told by no word, nor by one alone
+module _ {X C : Type 0} (Tells : List X → C → Type 0) (none : (c : C) → ¬ (Tells [] c)) where
+  pub no_first : (ws : List X) → None ≡ slice_get ws 0 → (c : C) → ¬ (Tells ws c)
+  no_first [] e c = none c
+  no_first (w ∷ ws) e c = λ h. absurd (not_there (sym e))
+
+  pub no_second : ((w : X) (c : C) → ¬ (Tells (w ∷ []) c)) → (ws : List X) → None ≡ slice_get ws 1 → (c : C) → ¬ (Tells ws c)
+  no_second alone [] e c = none c
+  no_second alone (w ∷ []) e c = alone w c
+  no_second alone (w ∷ v ∷ ws) e c = λ h. absurd (not_there (sym e))

@@ -1,10 +1,9 @@
 -- A card: zeros added to a new bench one after another, and then its orders asked. Patterns are held as numbers of 64 bits.
-use Rattle.std.specs.Prelude.{◌≡◌, ℕ, ◌<◌, min, max, cond, List, [], ◌∷◌, length, ◌==◌, nat_lt, slice_index_or}
+use Rattle.std.specs.Prelude.{◌≡◌, ℕ, ◌<◌, min, max, cond, List, [], ◌∷◌, length, Option, Some, None, nat_lt, slice_index_or}
 use Rattle.std.specs.Int.{w64, to_be_bytes}
 use Rattle.arithmetic.specs.Meaning.{Meaning}
 use Rattle.coefficients.specs.Calls.{Making, State, Answer, add, ask, added, cleared, asked, issued, marked, withdrawn, refused, new_bench, step}
-use Rattle.binary64.specs.Patterns.{meaning as binary64}
-use Rattle.scientific.specs.Patterns.{meaning as decimal}
+use Rattle.formats.specs.Formats.{Format, format_of, meaning_of}
 use Rattle.report.specs.Text.{making}
 use Rattle.exports.specs.Operations.{pattern_of}
 
@@ -39,7 +38,11 @@ Worked m K zeros old new = Asked (making m K) (after_zeros (making m K) (new_ben
 abbrev pub card_order : List ℕ → ℕ
 card_order zeros = min (max (length zeros) 1) 64
 
--- by the number of the arithmetic; with any other number the answers stay
+-- in the arithmetic of a format; where there is none the answers stay
+abbrev pub WorkedIn : Option Format → List ℕ → List (List ℕ) → List (List ℕ) → Type 0
+WorkedIn (Some format) zeros old new = Worked (meaning_of format) (card_order zeros) zeros old new
+WorkedIn None zeros old new = new ≡ old
+
+-- by the number of the format
 abbrev pub CardIn : ℕ → List ℕ → List (List ℕ) → List (List ℕ) → Type 0
-CardIn format zeros old new =
-    cond (format == 1) (Worked binary64 (card_order zeros) zeros old new) (cond (format == 2) (Worked (decimal 8) (card_order zeros) zeros old new) (new ≡ old))
+CardIn number zeros old new = WorkedIn (format_of number) zeros old new

@@ -1,11 +1,10 @@
 -- What `coef_operate` answers, by the definitions of the operations. A pattern is held as a number of 64 bits: its eight bytes, the highest
 -- first.
-use Rattle.std.specs.Prelude.{ℕ, cond, ℤ, ◌==◌, true, false}
+use Rattle.std.specs.Prelude.{ℕ, cond, ℤ, Option, Some, None, ◌==◌, true, false}
 use Rattle.std.specs.Int.{w64, to_be_bytes, from_be_bytes}
 use Rattle.arithmetic.specs.Meaning.{Meaning}
 use Rattle.arithmetic.specs.Causes.{cause_number}
-use Rattle.binary64.specs.Patterns.{meaning as binary64}
-use Rattle.scientific.specs.Patterns.{meaning as decimal}
+use Rattle.formats.specs.Formats.{Format, format_of, meaning_of}
 use Rattle.patterns.specs.declared.Pattern.{Pattern}
 use Rattle.operations.specs.declared.answer.Answer.{Answer}
 use Rattle.operations.specs.declared.answer.Answer.TheVariants.{Number, Split, Truth, Refused, NotAdmitted, NotLifted}
@@ -44,7 +43,11 @@ operated m operation a b =
     (cond (operation == 4) (outside (admission_answer m (pattern a)))
     (cond (operation == 5) (outside (comparison_answer m (pattern a) (pattern b))) (no_number 5)))))
 
--- by the number of the arithmetic
+-- in the arithmetic of a format, where there is one
+abbrev pub operated_in : Option Format → ℕ → ℕ → ℕ → OutsideAnswer
+operated_in (Some format) operation a b = operated (meaning_of format) operation a b
+operated_in None operation a b = no_number 5
+
+-- by the number of the format
 abbrev pub operate_in : ℕ → ℕ → ℕ → ℕ → OutsideAnswer
-operate_in format operation a b =
-    cond (format == 1) (operated binary64 operation a b) (cond (format == 2) (operated (decimal 8) operation a b) (no_number 5))
+operate_in number operation a b = operated_in (format_of number) operation a b

@@ -9,6 +9,7 @@ use arithmetic::Arithmetic;
 use bench::Bench;
 use binary64::Binary64;
 use decimal::Decimal;
+use formats::Format;
 use row::cell::Cell;
 use row::empty;
 
@@ -72,23 +73,23 @@ fn work<A: Arithmetic>(
     ask_orders(&bench, arith, answers);
 }
 
-// Works a card in an arithmetic: 1 is binary64, 2 decimal with eight digits. The highest order of its bench is the count of its zeros, but
-// at least 1 and at most 64. Answer k is the value and the bound of order k; where that is refused it is left as it was.
+// Works a card in the arithmetic of the format with a number. The highest order of its bench is the count of its zeros, but at least 1 and at
+// most 64. Answer k is the value and the bound of order k; where that is refused it is left as it was.
 #[unsafe(no_mangle)]
 pub extern "C" fn coef_card(format: u8, zeros: &[u64], answers: &mut [[u64; 2]])
     ensures { CardIn format zeros.now answers.old answers.new }
 {
     let highest_order = zeros.len().max(1).min(64);
-    match format {
-        1 => {
+    match Format::of_number(format) {
+        Some(Format::Binary64) => {
             let mut cells = [empty(&Binary64); 65];
             work(&mut Binary64, &mut cells[..=highest_order], zeros, answers)
         }
-        2 => {
+        Some(Format::Decimal) => {
             let mut decimal = Decimal::eight();
             let mut cells = [empty(&decimal); 65];
             work(&mut decimal, &mut cells[..=highest_order], zeros, answers)
         }
-        _ => {}
+        None => {}
     }
 }

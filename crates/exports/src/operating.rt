@@ -8,6 +8,7 @@ ghost use Rattle.exports.specs.Operations.{no_number, outside, operated, operate
 use arithmetic::Arithmetic;
 use binary64::Binary64;
 use decimal::Decimal;
+use formats::Format;
 use operations::answer::Answer;
 use operations::{admission, at_most, lift, split_product, split_sum};
 use patterns::Pattern;
@@ -109,14 +110,14 @@ fn work<A: Arithmetic>(arith: &mut A, operation: u8, a: u64, b: u64) -> OutsideA
     }
 }
 
-// The same in an arithmetic: 1 is binary64, 2 decimal with eight digits.
+// The same in the arithmetic of the format with a number.
 #[unsafe(no_mangle)]
 pub extern "C" fn coef_operate(format: u8, operation: u8, a: u64, b: u64) -> OutsideAnswer
     ensures { result ≡ operate_in format operation a b }
 {
-    match format {
-        1 => work(&mut Binary64, operation, a, b),
-        2 => work(&mut Decimal::eight(), operation, a, b),
-        _ => without_number(NO_OPERATION),
+    match Format::of_number(format) {
+        Some(Format::Binary64) => work(&mut Binary64, operation, a, b),
+        Some(Format::Decimal) => work(&mut Decimal::eight(), operation, a, b),
+        None => without_number(NO_OPERATION),
     }
 }

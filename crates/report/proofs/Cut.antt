@@ -6,7 +6,8 @@ use Rattle.std.specs.Io.Take.{take_limit, take_inner, take_remaining}
 use Rattle.std.specs.declared.io.traits.Take.{Take}
 use Rattle.std.proofs.lemmas.List.{take_all, length-take-le}
 use Rattle.integers.proofs.Tests.{leb_yes, leb_no}
-use Rattle.sheet.specs.Layout.{refused, header_fault, format_of, with_format}
+use Rattle.formats.specs.Formats.{format_of}
+use Rattle.sheet.specs.Layout.{refused, header_fault, with_format}
 use Rattle.report.specs.Text.{fault_line}
 use Rattle.report.specs.Report.{by_header, report}
 

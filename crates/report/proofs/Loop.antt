@@ -1,6 +1,6 @@
 -- A turn of the loop, seen from the bench that the loop began with: the arithmetic is set as it was, the bench was made so, and the
 -- sheet is the same.
-use Rattle.std.proofs.Common.{◌≡◌, ℕ, ◌+◌, ◌-◌, ◌<◌, suc, true, false, List, ◌++◌, length, take, drop, Option, None, Some, Err, Result, refl, sym, ap, subst, ◌∙◌, arith}
+use Rattle.std.proofs.Common.{◌≡◌, ℕ, ◌+◌, ◌-◌, ◌<◌, suc, true, false, List, ◌++◌, length, take, drop, Option, None, Some, Err, Result, refl, sym, ap, subst, ◌∙◌, arith, ltb, le-ltb, lt-ltb}
 use Rattle.std.proofs.Math.Seq.{take-append_seam}
 use Rattle.arithmetic.specs.Setting.{Setting}
 use Rattle.coefficients.specs.Calls.{Making, State}
@@ -17,13 +17,13 @@ use Rattle.report.specs.declared.report.Report.{Report}
 use Rattle.report.specs.declared.refusal.Unreported.{Unreported}
 use Rattle.report.specs.declared.refusal.Unreported.TheVariants.{NoRoom, Faulty}
 use Rattle.report.specs.Puts.{TakesSome, Puts}
-use Rattle.report.proofs.Slips.{Going, goes_on, all_told, all_counted, ends, refused}
+use Rattle.report.proofs.Slips.{Going, going_as, goes_on, all_told, all_counted, ends, refused}
 
 -- as many readings are left as turns were not taken
 pub none_taken : (n : ℕ) → n ≡ n - 0
 none_taken n = omega arith
 
-pub one_left : (n i : ℕ) → i < n → n - i ≡ suc (n - (i + 1))
+one_left : (n i : ℕ) → i < n → n - i ≡ suc (n - (i + 1))
 one_left n i h = omega arith
 
 -- a bench that was made like another in one setting was so in an equal one
@@ -65,34 +65,47 @@ module _ {A N P : Type 0} {g : _} (st st' : Setting P) (b : Making) (sheet : Lis
       ∙ ap (λ c. step_by_reading c before (reading c.meaning r.reader.bytes.now before.byte before.slips)) made
       ∙ ap (λ x. step_by_reading b before (reading b.meaning x before.byte before.slips)) bytes
 
-  -- where the lines of the next slip were put, if there is one
-  module _ {S : Type 0} (takes : S → S → List ℕ → Type 0) (in_turn : (r s t : S) (xs ys : List ℕ) → takes r s xs → takes s t ys → takes r t (xs ++ ys)) (k : ℕ) (first : Contents) (state : State) (old now new : S) (n : ℕ) (i : Going takes b sheet (suc k) before first state old now n) where
+  -- where so many turns were taken, and one more is
+  module _ {S : Type 0} (takes : S → S → List ℕ → Type 0) (in_turn : (r s t : S) (xs ys : List ℕ) → takes r s xs → takes s t ys → takes r t (xs ++ ys)) (turn : ℕ) (more : turn < length sheet) (first : Contents) (state : State) (old now new : S) (n : ℕ) (left : Going takes b sheet (length sheet - turn) before first state old now n) where
+    abbrev k : ℕ
+    k = length sheet - (turn + 1)
+
+    i : Going takes b sheet (suc k) before first state old now n
+    i = going_as takes in_turn (one_left (length sheet) turn more) left
+
     -- where the sink refuses
     pub turn_refused : TakesSome takes now new (lines_answered (slip_step st' r bench).answer) → TakesSome takes old new (lines b.meaning (book_of first.slips b state))
     turn_refused p = refused takes in_turn b sheet k before before first state old now new n i (subst (λ t. TakesSome takes now new (lines_answered t.answer)) step_as p)
 
-    module _ (m : ℕ) (w : takes now new (lines_answered (slip_step st' r bench).answer)) (l : m ≡ length (lines_answered (slip_step st' r bench).answer)) where
+    -- where the lines of the next slip were put, if there is one: none exactly where they have no byte
+    module _ (m : ℕ) (w : takes now new (lines_answered (slip_step st' r bench).answer)) (l : m ≡ length (lines_answered (slip_step st' r bench).answer)) (slip : ltb 0 m ≡ is_slip (next_reading st' r)) where
       written : takes now new (lines_answered (step_by_reading b before next).answer)
       written = subst (λ t. takes now new (lines_answered t.answer)) step_as w
 
       counted : m ≡ length (lines_answered (step_by_reading b before next).answer)
       counted = l ∙ ap (λ t. length (lines_answered t.answer)) step_as
 
-      pub turn_told : false ≡ is_slip (next_reading st' r) → takes old new (lines b.meaning (book_of first.slips b state))
-      turn_told h = all_told takes in_turn b sheet k before before first state old now new n i (sym (h ∙ ap is_slip reading_as)) written
+      no_slip : m ≡ 0 → is_slip next ≡ false
+      no_slip z = sym (ap is_slip reading_as) ∙ sym slip ∙ le-ltb 0 m (omega (arith, z))
 
-      pub turn_counted : false ≡ is_slip (next_reading st' r) → m ≡ 0 → n ≡ length (lines b.meaning (book_of first.slips b state))
-      turn_counted h z = all_counted takes in_turn b sheet k before before first state old now new n i (sym (h ∙ ap is_slip reading_as)) (sym z ∙ counted)
+      a_slip : 0 < m → true ≡ is_slip next
+      a_slip h = sym (lt-ltb 0 m h) ∙ slip ∙ ap is_slip reading_as
+
+      pub turn_told : m ≡ 0 → takes old new (lines b.meaning (book_of first.slips b state))
+      turn_told z = all_told takes in_turn b sheet k before before first state old now new n i (no_slip z) written
+
+      pub turn_counted : m ≡ 0 → n ≡ length (lines b.meaning (book_of first.slips b state))
+      turn_counted z = all_counted takes in_turn b sheet k before before first state old now new n i (no_slip z) (sym z ∙ counted)
 
       module _ (r' : Report) (bench' : Bench A N P g) (then : report_state st' r' bench' ≡ (slip_step st' r bench).then) where
         then_as : report_state st r' bench' ≡ (step_by_reading b before next).then
         then_as = sym (ap (λ t. report_state t r' bench') same) ∙ then ∙ ap (λ t. t.then) step_as
 
-        pub turn_on : true ≡ is_slip (next_reading st' r) → Going takes b sheet k (report_state st r' bench') first state old new (n + m)
-        turn_on h = goes_on takes in_turn b sheet k before (report_state st r' bench') first state old now new n i (sym (h ∙ ap is_slip reading_as)) m written counted then_as
+        pub turn_on : 0 < m → Going takes b sheet k (report_state st r' bench') first state old new (n + m)
+        turn_on h = goes_on takes in_turn b sheet k before (report_state st r' bench') first state old now new n i (sym (a_slip h)) m written counted then_as
 
-        pub turn_ends : r.fault ≡ None → false ≡ is_slip (next_reading st' r) → ending_by r'.reader.slips (told_kept r'.fault) ≡ first.ending
-        turn_ends f h = ends takes in_turn b sheet k before (report_state st r' bench') first state old now new n i (ap told_kept f) (sym (h ∙ ap is_slip reading_as)) then_as
+        pub turn_ends : r.fault ≡ None → m ≡ 0 → ending_by r'.reader.slips (told_kept r'.fault) ≡ first.ending
+        turn_ends f z = ends takes in_turn b sheet k before (report_state st r' bench') first state old now new n i (ap told_kept f) (no_slip z) then_as
 
-        pub turn_unmet : true ≡ is_slip (next_reading st' r) → r'.fault ≡ None
-        turn_unmet h = unmet_after b before next r'.fault (h ∙ ap is_slip reading_as) (ap (λ s. s.fault) then_as)
+        pub turn_unmet : 0 < m → r'.fault ≡ None
+        turn_unmet h = unmet_after b before next r'.fault (a_slip h) (ap (λ s. s.fault) then_as)

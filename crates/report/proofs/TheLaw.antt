@@ -1,17 +1,16 @@
 -- The book of a sheet is kept, entry by entry: each entry has the answer that is defined for its call in the state that the entries before
--- lead to. So the law over books holds at each of its places, in every arithmetic that shows the rules, and so in both that a sheet may name.
-use Rattle.std.proofs.Common.{◌≡◌, ℕ, Bool, true, false, cond, List, [], ◌∷◌, ◌++◌, Option, None, Some, refl, subst, arith}
+-- lead to. So the law over books holds at each of its places, in every arithmetic that shows the rules, and so in each that a sheet may name.
+use Rattle.std.proofs.Common.{◌≡◌, ℕ, Bool, true, false, cond, ◌&&◌, leb, List, [], ◌∷◌, ◌++◌, length, Option, None, Some, refl, subst}
+use Rattle.std.specs.Prelude.{slice_index, IfSome}
 use Rattle.arithmetic.specs.Meaning.{Meaning}
 use Rattle.arithmetic.specs.Rules.{Rules}
 use Rattle.coefficients.specs.Calls.{Making, State, Step, Call, Answer, step, new_bench, issue, mark, withdraw}
 use Rattle.coefficients.specs.Book.{Entry, KeptFrom, Kept, Place, state_after, accepted}
 use Rattle.coefficients.proofs.Books.{values_enclosed, verdicts_hold, values_agree}
 use Rattle.calls.specs.Entries.{alone, settling}
-use Rattle.binary64.specs.TheRules.{rules as binary64_rules}
-use Rattle.scientific.specs.declared.precision.Precision.{Precision}
-use Rattle.scientific.proofs.TheRules.{rules as decimal_rules}
-use Rattle.sheet.specs.declared.format.Format.TheVariants.{Binary64, Decimal}
-use Rattle.sheet.specs.Layout.{Field, Task, asks, examines, Slip, Opening, opened, refused, opening}
+use Rattle.formats.specs.Formats.{Format, format_of, meaning_of}
+use Rattle.formats.proofs.EachRules.{format_rules}
+use Rattle.sheet.specs.Layout.{Fault, header_fault, with_format, opened, refused, Field, Task, asks, examines, Slip}
 use Rattle.sheet.specs.Contents.{contents}
 use Rattle.sheet.proofs.Readings.{is_whole}
 use Rattle.slips.specs.Book.{order_in, task_entries, entries_by, slip_entries, book_of}
@@ -69,14 +68,19 @@ module _ (b : Making) where
 pub sheet_holds : (m : Meaning) (K : ℕ) (s : List ℕ) → Rules m → SheetHolds m K s
 sheet_holds m K s R = record { read = is_whole m s; lines = lines_hold (making m K) R (contents m s).slips }
 
--- decimal has eight digits
-abbrev eight : Precision
-eight = record { digits = 8; least = omega arith; most = omega arith }
+-- by the tests of the header: the length of the sheet, its format, its highest order
+module _ (s : List ℕ) (K : ℕ) where
+  by_order : (format : Format) (t : Bool) (fault : Fault) → Rules (meaning_of format) → law_by_header s (cond t (opened format K) (refused fault))
+  by_order format true fault R = sheet_holds (meaning_of format) K s R
+  by_order format false fault R = tt
+
+  by_format : (format : Option Format) → IfSome format (λ f. Rules (meaning_of f)) → law_by_header s (with_format format K)
+  by_format (Some format) R = by_order format (leb 1 K && leb K 64) _ R
+  by_format None R = tt
 
 pub report_law : (s : List ℕ) → ReportLaw s
-report_law s = by (opening s)
+report_law s = by_length (leb 2 (length s) && leb (length s) 32768)
   where
-    by : (o : Opening) → law_by_header s o
-    by (opened Binary64 K) = sheet_holds _ K s binary64_rules
-    by (opened Decimal K) = sheet_holds _ K s (decimal_rules eight)
-    by (refused f) = tt
+    by_length : (t : Bool) → law_by_header s (cond t (with_format (format_of (slice_index s 0)) (slice_index s 1)) (refused (header_fault 13 0)))
+    by_length true = by_format s (slice_index s 1) (format_of (slice_index s 0)) (format_rules (slice_index s 0))
+    by_length false = tt

@@ -7,10 +7,10 @@ use Rattle.coefficients.specs.Closing.{Verdict}
 use Rattle.coefficients.specs.Calls.{Making, ask, mark, asked, marked}
 use Rattle.coefficients.specs.Book.{Entry, Kept, Place, zeros_held}
 use Rattle.coefficients.specs.Law.{distance, scaled, VerdictHolds, SameZeros, WithinBoth}
+use Rattle.formats.specs.Formats.{meaning_of}
 use Rattle.sheet.specs.Layout.{Opening, opened, refused, opening}
 use Rattle.sheet.specs.Contents.{IsWhole}
 use Rattle.report.specs.Text.{making, sheet_book}
-use Rattle.report.specs.Report.{meaning_of}
 
 -- what the lines of a book say is true
 pub record LinesHold (b : Making) (book : List Entry) : Type 0 where

@@ -19,10 +19,10 @@ use arithmetic::Arithmetic;
 use bench::Bench;
 use binary64::Binary64;
 use decimal::Decimal;
+use formats::Format;
 use row::cell::Cell;
 use row::empty;
 use sheet::Sheet;
-use sheet::format::Format;
 
 // Puts a text, and answers its length.
 fn put_text<S: Sink>(text: &[u8], out: &mut S) -> Result<usize, S::Refusal>

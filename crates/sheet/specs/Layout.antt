@@ -3,8 +3,7 @@
 -- Bytes are counted from 0, slips from 1.
 use Rattle.std.specs.Prelude.{ℕ, suc, ◌+◌, ◌/◌, ◌%◌, Bool, cond, ◌&&◌, ◌||◌, List, [], ◌∷◌, ◌++◌, length, take, drop, Option, None, Some, ◌==◌, nat_le, nat_lt, slice_index}
 use Rattle.arithmetic.specs.Meaning.{Meaning, Admission, number, not_admitted}
-use Rattle.sheet.specs.declared.format.Format.{Format}
-use Rattle.sheet.specs.declared.format.Format.TheVariants.{Binary64, Decimal}
+use Rattle.formats.specs.Formats.{Format, format_of}
 use Rattle.sheet.specs.declared.place.Place.{Place}
 
 -- ---- faults
@@ -24,19 +23,15 @@ map_fault n place = record { number = n; place = place; cause = None }
 
 -- ---- the header
 pub data Opening : Type 0 where
-  -- the arithmetic, and the highest order K
+  -- the format of the numbers, and the highest order K
   opened : Format → ℕ → Opening
   refused : Fault → Opening
-
--- the arithmetic of a number
-abbrev pub format_of : ℕ → Option Format
-format_of n = cond (n == 1) (Some Binary64) (cond (n == 2) (Some Decimal) None)
 
 -- 15: is K from 1 to 64?
 abbrev pub with_order : Format → ℕ → Opening
 with_order format K = cond (nat_le 1 K && nat_le K 64) (opened format K) (refused (header_fault 15 1))
 
--- 14: is the first byte 1 or 2?
+-- 14: does the first byte name a format?
 abbrev pub with_format : Option Format → ℕ → Opening
 with_format (Some format) K = with_order format K
 with_format None K = refused (header_fault 14 0)

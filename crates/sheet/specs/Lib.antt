@@ -1,4 +1,3 @@
-pub mod Formats
 pub mod Layout
 pub mod Contents
 pub mod Faults

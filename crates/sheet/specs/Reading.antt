@@ -1,10 +1,11 @@
 -- What the code reads, as the definitions say it.
 use Rattle.std.specs.Prelude.{◌≡◌, ℕ, suc, ◌<◌, Option, None, Some, Ok, Err, Result}
+use Rattle.formats.specs.Words.{told_format}
+use Rattle.formats.specs.declared.Format.{Format}
 use Rattle.sheet.specs.Layout.{Field as DefinedField, Task as DefinedTask, Slip as DefinedSlip, Opening, opened, refused, asks, examines, Reading, ended, reads, faulty}
 use Rattle.sheet.specs.Faults.{told_slip_fault, told_fault}
 use Rattle.sheet.specs.declared.fault.SlipFault.{SlipFault}
 use Rattle.sheet.specs.declared.fault.SheetFault.{SheetFault}
-use Rattle.sheet.specs.declared.format.Format.{Format}
 use Rattle.sheet.specs.declared.slip.Field.{Field}
 use Rattle.sheet.specs.declared.slip.Task.{Task}
 use Rattle.sheet.specs.declared.slip.Task.TheVariants.{Ask, Examine}
@@ -43,7 +44,7 @@ Moved (Err f) at slips at' slips' = (at' ≡ at) × (slips' ≡ slips)
 
 -- ---- the header of a sheet that is opened
 abbrev pub told_opening : {S : Type 0} → (S → Format) → (S → ℕ) → Result S SheetFault → Opening
-told_opening format highest (Ok s) = opened (format s) (highest s)
+told_opening format highest (Ok s) = opened (told_format (format s)) (highest s)
 told_opening format highest (Err f) = refused (told_fault f)
 
 -- what is answered of one slip: the slip and the byte after it

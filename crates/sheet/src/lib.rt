@@ -5,7 +5,6 @@ pub use sheet::{Reader, Sheet};
 
 pub mod fault;
 mod fields;
-pub mod format;
 pub mod opening;
 pub mod place;
 pub mod reader;

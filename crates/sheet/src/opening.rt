@@ -4,8 +4,8 @@ ghost use Rattle.sheet.specs.Layout.{opening};
 ghost use Rattle.sheet.specs.Reading.{told_opening};
 
 use crate::fault::SheetFault;
-use crate::format::Format;
 use crate::sheet::{Reader, Sheet};
+use formats::Format;
 
 // The most bytes that a sheet may have.
 pub const LONGEST: usize = 32768;
@@ -19,11 +19,7 @@ impl<'s> Sheet<'s> {
         if !(2..=LONGEST).contains(&bytes.len()) {
             return Err(SheetFault::Length);
         }
-        let format = match bytes[0] {
-            1 => Format::Binary64,
-            2 => Format::Decimal,
-            _ => return Err(SheetFault::Format),
-        };
+        let format = Format::of_number(bytes[0]).ok_or(SheetFault::Format)?;
         let highest_order = bytes[1];
         if !(1..=64).contains(&highest_order) {
             return Err(SheetFault::HighestOrder);

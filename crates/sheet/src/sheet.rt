@@ -1,8 +1,9 @@
 // A sheet whose header is accepted, and the reader of its slips.
 ghost use Rattle.std.specs.Prelude.{◌≡◌, ◌≤◌, Some, length, slice_index};
-ghost use Rattle.sheet.specs.Layout.{format_of};
+ghost use Rattle.formats.specs.Formats.{format_of};
+ghost use Rattle.formats.specs.Words.{told_format};
 
-use crate::format::Format;
+use formats::Format;
 
 // The bytes of a sheet, 2 to 32,768; the arithmetic that it names; and the highest order K, from 1 to 64.
 #[derive(Clone, Copy)]
@@ -15,7 +16,7 @@ pub struct Sheet<'s> {
     ghost short: { length bytes.now ≤ 32768 },
     ghost least: { 1 ≤ highest_order },
     ghost most: { highest_order ≤ 64 },
-    ghost named: { format_of (slice_index bytes.now 0) ≡ Some format },
+    ghost named: { format_of (slice_index bytes.now 0) ≡ Some (told_format format) },
     ghost told: { slice_index bytes.now 1 ≡ highest_order },
 }
 

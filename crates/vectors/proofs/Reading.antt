@@ -3,7 +3,7 @@ use Rattle.std.proofs.Common.{◌≡◌, ℕ, ◌≢◌, List, [], ◌∷◌, Op
 use Rattle.patterns.specs.Patterns.{Reads}
 use Rattle.patterns.specs.declared.Pattern.{Pattern}
 use Rattle.comparison.specs.Words.{Counts}
-use Rattle.comparison.proofs.Places.{not_there, two_words, three_words}
+use Rattle.comparison.proofs.Places.{not_there, two_words, three_words, no_first, no_second}
 use Rattle.vectors.specs.declared.vector.Vector.{Vector}
 use Rattle.vectors.specs.declared.vector.Vector.TheVariants.{Sum, Product, Lift, Admit, AtMost}
 use Rattle.vectors.specs.Questions.{TellsOne, TellsTwo, Tells, IsVectorOf}
@@ -72,13 +72,10 @@ at_most_unread name x y e u (Admit a) h = h
 
 -- ---- by the count of words
 pub no_name : (ws : List (List ℕ)) → None ≡ slice_get ws 0 → (v : Vector) → ¬ (Tells ws v)
-no_name [] e v h = h
-no_name (name ∷ ws) e v h = absurd (not_there (sym e))
+no_name = no_first Tells (λ v h. h)
 
 pub no_operand : (ws : List (List ℕ)) → None ≡ slice_get ws 1 → (v : Vector) → ¬ (Tells ws v)
-no_operand [] e v h = h
-no_operand (name ∷ []) e v h = h
-no_operand (name ∷ x ∷ ws) e v h = absurd (not_there (sym e))
+no_operand = no_second Tells (λ v h. h) (λ name v h. h)
 
 pub too_many : (ws : List (List ℕ)) (z : List ℕ) → Some z ≡ slice_get ws 3 → (v : Vector) → ¬ (Tells ws v)
 too_many [] z e v h = h

@@ -2,10 +2,6 @@
 use Rattle.std.specs.Prelude.{◌≡◌, ◌↔◌, ℕ, ◌==◌, IsTrue, Bool, List, Option, Some, None, MatchOption}
 use Rattle.std.specs.List.{before_first}
 use Rattle.arithmetic.specs.Meaning.{Meaning}
-use Rattle.binary64.specs.Patterns.{meaning as meaning_of_binary64}
-use Rattle.scientific.specs.Patterns.{meaning as meaning_of_decimal}
-use Rattle.sheet.specs.declared.format.Format.{Format}
-use Rattle.sheet.specs.declared.format.Format.TheVariants.{Binary64, Decimal}
 use Rattle.operations.specs.declared.answer.Answer.{Answer}
 use Rattle.vectors.specs.declared.tally.Operation.{Operation}
 use Rattle.vectors.specs.declared.tally.Tally.{Tally}
@@ -15,11 +11,6 @@ use Rattle.vectors.specs.Questions.{Tells}
 use Rattle.vectors.specs.Tallies.{noted}
 use Rattle.operations.specs.Texts.{answer_text}
 use Rattle.vectors.specs.Workings.{worked}
-
--- the meaning of the arithmetic of a format; decimal has eight digits
-abbrev pub meaning_of : Format → Meaning
-meaning_of Binary64 = meaning_of_binary64
-meaning_of Decimal = meaning_of_decimal 8
 
 -- what the vector that words tell is worked to in an arithmetic; none where they tell none
 abbrev pub IsWorkingOf : Meaning → List (List ℕ) → Option Worked → Type 0

@@ -1,8 +1,10 @@
 // A section of vectors: those that are worked through the arithmetic of one format.
 ghost use Rattle.std.specs.Prelude.{◌≡◌, IfOk};
 ghost use Rattle.comparison.specs.Words.{words};
+ghost use Rattle.formats.specs.Formats.{meaning_of};
+ghost use Rattle.formats.specs.Words.{told_format};
 ghost use Rattle.vectors.specs.Tallies.{no_vectors};
-ghost use Rattle.vectors.specs.Sections.{meaning_of, IsWorkingOf, first_word_of, NotesAnswer, NotesBoth};
+ghost use Rattle.vectors.specs.Sections.{IsWorkingOf, first_word_of, NotesAnswer, NotesBoth};
 
 use crate::tally::{Operation, Tally};
 use crate::vector::parse;
@@ -10,8 +12,8 @@ use crate::work::{Worked, work};
 use binary64::Binary64;
 use comparison::compare;
 use decimal::Decimal;
+use formats::Format;
 use operations::answer::Answer;
-use sheet::format::Format;
 use std::fmt;
 
 // The format that it names, and what is counted of its vectors.
@@ -39,7 +41,7 @@ impl Section {
 
     // Works a question through the arithmetic of the section; none where it is no vector.
     pub fn work(&self, question: &str) -> Option<Worked>
-        ensures { IsWorkingOf (meaning_of self.now.format) (words question.now) result }
+        ensures { IsWorkingOf (meaning_of (told_format self.now.format)) (words question.now) result }
     {
         let vector = parse(question)?;
         Some(match self.format {

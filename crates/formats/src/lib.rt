@@ -1,6 +1,9 @@
-// The formats of numbers that a sheet may name, by a number in its header, and the words that name them elsewhere.
-ghost use Rattle.std.specs.Prelude.{Some};
-ghost use Rattle.sheet.specs.Formats.{format_name, Names};
+// The formats of numbers that a sheet may name, each in one place: its number in a header, its word, and the meaning of its arithmetic.
+#![tactic(auto)]
+
+ghost use Rattle.std.specs.Prelude.{◌≡◌, Some, option_map};
+ghost use Rattle.formats.specs.Formats.{format_of};
+ghost use Rattle.formats.specs.Words.{told_format, format_name, Names};
 
 use std::fmt;
 use std::str::FromStr;
@@ -15,6 +18,19 @@ pub enum Format {
 // A word that names none of the formats.
 #[derive(Clone, Copy, Debug, PartialEq, Eq)]
 pub struct NotAFormat;
+
+impl Format {
+    // The format with a number: 1 is binary64, 2 decimal with eight digits; none has another.
+    pub fn of_number(number: u8) -> Option<Format>
+        ensures { option_map told_format result ≡ format_of number }
+    {
+        match number {
+            1 => Some(Format::Binary64),
+            2 => Some(Format::Decimal),
+            _ => None,
+        }
+    }
+}
 
 impl fmt::Display for Format {
     ghost output = { λ f. Some (format_name f) };

@@ -1,8 +1,13 @@
--- The words that name the formats.
+-- The formats of the code as those of the definitions, and the words that name them.
 use Rattle.std.specs.Prelude.{ℕ, List, Ok, Err, Result, ◌≡◌, ◌≢◌, codes}
-use Rattle.sheet.specs.declared.format.Format.{Format}
-use Rattle.sheet.specs.declared.format.Format.TheVariants.{Binary64, Decimal}
-use Rattle.sheet.specs.declared.format.NotAFormat.{NotAFormat}
+use Rattle.formats.specs.Formats.{Format as DefinedFormat, binary64, decimal}
+use Rattle.formats.specs.declared.Format.{Format}
+use Rattle.formats.specs.declared.Format.TheVariants.{Binary64, Decimal}
+use Rattle.formats.specs.declared.NotAFormat.{NotAFormat}
+
+abbrev pub told_format : Format → DefinedFormat
+told_format Binary64 = binary64
+told_format Decimal = decimal 8
 
 -- the word of each format
 abbrev pub format_name : Format → List ℕ
