@@ -1,10 +1,10 @@
--- The worked figures: what the definitions give on small cards, in binary64 and in decimal with eight digits.
-use Rattle.std.specs.Prelude.{◌≡◌, ℕ, ◌-◌, ◌*◌, ◌^◌, List, [], ◌∷◌, ℤ, pos, neg_ℤ}
+-- The worked figures: what the definitions give on small cards, in binary64 and in decimal.
+use Rattle.std.specs.Prelude.{◌≡◌, ℕ, ◌-◌, ◌*◌, ◌^◌, ◌≤◌, List, [], ◌∷◌, ℤ, pos, neg_ℤ}
 use Rattle.std.proofs.Math.Option.{some}
 use Rattle.arithmetic.specs.Meaning.{Meaning}
 use Rattle.arithmetic.specs.Operations.{sum_split}
 use Rattle.binary64.specs.Patterns.{meaning, pattern}
-use Rattle.scientific.specs.Patterns.{meaning as decimal}
+use Rattle.scientific.specs.Patterns.{meaning as decimal, written, reads}
 use Rattle.coefficients.specs.Closing.{right, wrong, left_open}
 use Rattle.coefficients.specs.Calls.{Making, State, Call, Answer, step, new_bench, add_number, mark_numbers, add, clear, ask, issue, added, cleared, asked, marked, refused}
 
@@ -75,14 +75,14 @@ pub record Binary64Figures : Type 0 where
   -- the second 2^900 is refused: the sum is too large
   pub too_large : adds meaning 1 (binary 1974 ∷ []) (binary 1974) ≡ refused 5 (1 ∷ 2 ∷ [])
 
+-- with any count of digits: no zeros, order 0 is 1 with the bound 0; then the zeros 1, 2, 3: the coefficients 1, −6, 11, −6 with bounds 0
+abbrev pub OneTwoThree : Meaning → Type 0
+OneTwoThree m =
+    answers (bench_of m 3) (new_bench (bench_of m 3)) (ask 0 ∷ add (m.pattern (whole m 1)) ∷ add (m.pattern (whole m 2)) ∷ add (m.pattern (whole m 3)) ∷ ask 0 ∷ ask 1 ∷ ask 2 ∷ ask 3 ∷ [])
+    ≡ asked (whole m 1) (pos 0) ∷ added 1 ∷ added 2 ∷ added 3 ∷ asked (whole m 1) (pos 0) ∷ asked (neg_ℤ (whole m 6)) (pos 0) ∷ asked (whole m 11) (pos 0) ∷ asked (neg_ℤ (whole m 6)) (pos 0) ∷ []
+
+-- with eight digits
 pub record DecimalFigures (m : Meaning) : Type 0 where
-  -- no zeros
-  pub no_zeros : asks m 3 [] 0 ≡ asked (whole m 1) (pos 0)
-  -- zeros 1, 2, 3
-  pub order_0 : asks m 3 (whole m 1 ∷ whole m 2 ∷ whole m 3 ∷ []) 0 ≡ asked (whole m 1) (pos 0)
-  pub order_1 : asks m 3 (whole m 1 ∷ whole m 2 ∷ whole m 3 ∷ []) 1 ≡ asked (neg_ℤ (whole m 6)) (pos 0)
-  pub order_2 : asks m 3 (whole m 1 ∷ whole m 2 ∷ whole m 3 ∷ []) 2 ≡ asked (whole m 11) (pos 0)
-  pub order_3 : asks m 3 (whole m 1 ∷ whole m 2 ∷ whole m 3 ∷ []) 3 ≡ asked (neg_ℤ (whole m 6)) (pos 0)
   -- 1.0000001 twice: order 2 is 1.0000002 with the bound 1.0000002 · 10^−14
   pub square : asks m 2 (places 10000001 7 ∷ places 10000001 7 ∷ []) 2 ≡ asked (places 10000002 7) (places 10000002 21)
   -- then the claim 1.0000002 is open with the tolerance 0 and right with 2 · 10^−14; the claim 1.0000003 is wrong with 0
@@ -94,7 +94,26 @@ pub record DecimalFigures (m : Meaning) : Type 0 where
   -- 99999999 and 0.5 split to 10^8 and −0.5; 10000000 and 0.5 to 10000000 and 0.5
   pub split_up : sum_split m (whole m 99999999) (places 5 1) ≡ some (record { main = whole m (10 ^ 8); error = neg_ℤ (places 5 1) })
   pub split_exact : sum_split m (whole m 10000000) (places 5 1) ≡ some (record { main = whole m 10000000; error = places 5 1 })
+  -- the zeros 1.234, 5.678, 9.012: order 1 is −15.924 with the bound 0
+  pub long_display : asks m 3 (places 1234 3 ∷ places 5678 3 ∷ places 9012 3 ∷ []) 1 ≡ asked (neg_ℤ (places 15924 3)) (pos 0)
+
+-- with four digits, what a short display does to a value and its bound
+pub record FourDigitFigures (m : Meaning) : Type 0 where
+  -- 1.001 twice: order 2 is 1.002 with the bound 1.002 · 10^−6
+  pub square : asks m 2 (places 1001 3 ∷ places 1001 3 ∷ []) 2 ≡ asked (places 1002 3) (places 1002 9)
+  -- the zeros 1.234, 5.678, 9.012: the coefficients −15.924, 69.297596 and −63.143947824 do not fit the display
+  pub order_1 : asks m 3 (places 1234 3 ∷ places 5678 3 ∷ places 9012 3 ∷ []) 1 ≡ asked (neg_ℤ (places 1592 2)) (places 4012 6)
+  pub order_2 : asks m 3 (places 1234 3 ∷ places 5678 3 ∷ places 9012 3 ∷ []) 2 ≡ asked (places 6930 2) (places 2411 6)
+  pub order_3 : asks m 3 (places 1234 3 ∷ places 5678 3 ∷ places 9012 3 ∷ []) 3 ≡ asked (neg_ℤ (places 6314 2)) (places 3964 6)
+  -- then the claim −15.92 of order 1 is open with the tolerance 0 and right with 0.01; the claim −15.93 is wrong with 0
+  pub claim_open : marks m 3 (places 1234 3 ∷ places 5678 3 ∷ places 9012 3 ∷ []) 1 (neg_ℤ (places 1592 2)) (pos 0) ≡ marked left_open
+  pub claim_right : marks m 3 (places 1234 3 ∷ places 5678 3 ∷ places 9012 3 ∷ []) 1 (neg_ℤ (places 1592 2)) (places 1 2) ≡ marked right
+  pub claim_wrong : marks m 3 (places 1234 3 ∷ places 5678 3 ∷ places 9012 3 ∷ []) 1 (neg_ℤ (places 1593 2)) (pos 0) ≡ marked wrong
 
 pub record Figures : Type 0 where
   pub of_binary64 : Binary64Figures
-  pub of_decimal : DecimalFigures (decimal 8)
+  pub of_each_decimal : (d : ℕ) → 4 ≤ d → d ≤ 8 → OneTwoThree (decimal d)
+  pub of_eight_digits : DecimalFigures (decimal 8)
+  pub of_four_digits : FourDigitFigures (decimal 4)
+  -- 1.0000002 as a cell keeps it with eight digits reads as 0 with four
+  pub other_digits : reads 4 (written 8 (places 10000002 7)) ≡ pos 0

@@ -1,4 +1,4 @@
-// Three cards in decimal with eight digits. A number M × 10^e is given as (M, e), with eight digits in M.
+// Cards in decimal, with eight digits and with four. A number M × 10^e is given as (M, e), with as many digits in M.
 use calls::call::Call;
 use patterns::Pattern;
 
@@ -22,7 +22,7 @@ fn examine(order: u8, claim: (i32, i16), tolerance: (i32, i16)) -> Call {
     }
 }
 
-// The zeros 1, 2 and 3, for a bench of highest order 3. Binary64 answers the same coefficients with bounds of 0, so both bounds together
+// With eight digits the zeros 1, 2 and 3, for a bench of highest order 3. Binary64 answers the same coefficients with bounds of 0, so both bounds together
 // leave no room for a difference.
 pub fn one_two_three() -> [Call; 7] {
     [
@@ -36,7 +36,7 @@ pub fn one_two_three() -> [Call; 7] {
     ]
 }
 
-// The zero 1.0000001 twice, for a bench of highest order 2, and claims on the coefficient of order 2.
+// With eight digits the zero 1.0000001 twice, for a bench of highest order 2, and claims on the coefficient of order 2.
 pub fn square() -> [Call; 6] {
     [
         add((10_000_001, -7)),
@@ -50,7 +50,7 @@ pub fn square() -> [Call; 6] {
     ]
 }
 
-// The zeros 10^10, 45, 45, -10^10 and 1.2345678, for a bench of highest order 5, where 10^10 cancels in order 1.
+// With eight digits the zeros 10^10, 45, 45, -10^10 and 1.2345678, for a bench of highest order 5, where 10^10 cancels in order 1.
 pub fn cancelled() -> [Call; 6] {
     [
         add((10_000_000, 3)),
@@ -58,6 +58,34 @@ pub fn cancelled() -> [Call; 6] {
         add((45_000_000, -6)),
         add((-10_000_000, 3)),
         add((12_345_678, -7)),
+        Call::Ask(1),
+    ]
+}
+
+// With four digits the zeros 1.234, 5.678 and 9.012, for a bench of highest order 3. Order 1 is -15.924, of which the display shows -15.92;
+// the bound says what is lost. Then claims on it.
+pub fn short_display() -> [Call; 9] {
+    [
+        add((1_234, -3)),
+        add((5_678, -3)),
+        add((9_012, -3)),
+        Call::Ask(1),
+        Call::Ask(2),
+        Call::Ask(3),
+        // -15.92 with no tolerance and with 0.01
+        examine(1, (-1_592, -2), ZERO),
+        examine(1, (-1_592, -2), (1_000, -5)),
+        // -15.93 with no tolerance
+        examine(1, (-1_593, -2), ZERO),
+    ]
+}
+
+// With eight digits the same zeros, for a bench of highest order 3, and order 1.
+pub fn long_display() -> [Call; 4] {
+    [
+        add((12_340_000, -7)),
+        add((56_780_000, -7)),
+        add((90_120_000, -7)),
         Call::Ask(1),
     ]
 }

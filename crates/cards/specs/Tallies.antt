@@ -19,7 +19,7 @@ noted t calls = record { cards = counted t.cards (calls.agree == calls.compared)
 abbrev pub no_tallies : Tallies
 no_tallies = record { binary64 = no_cards; decimal = no_cards }
 
--- after one card more of a format: its tally alone has counted it
+-- after one card more of a format: the tally of its arithmetic alone has counted it
 abbrev pub noted_of : Tallies → Format → Score → Tallies
 noted_of t Binary64 calls = record t { binary64 = noted t.binary64 calls }
-noted_of t Decimal calls = record t { decimal = noted t.decimal calls }
+noted_of t (Decimal p) calls = record t { decimal = noted t.decimal calls }

@@ -38,7 +38,7 @@ impl fmt::Display for Tally {
     }
 }
 
-// A tally for each format.
+// A tally for binary64, and one for decimal with any count of digits.
 #[derive(Clone, Copy)]
 pub struct Tallies {
     binary64: Tally,
@@ -61,7 +61,7 @@ impl Tallies {
     {
         match format {
             Format::Binary64 => self.binary64.note(calls),
-            Format::Decimal => self.decimal.note(calls),
+            Format::Decimal(_) => self.decimal.note(calls),
         }
     }
 }
@@ -69,6 +69,6 @@ impl Tallies {
 impl fmt::Display for Tallies {
     fn fmt<W: fmt::Write>(&self, f: &mut fmt::Formatter<W>) -> fmt::Result {
         writeln!(f, "{}\n{}", Format::Binary64, self.binary64)?;
-        write!(f, "{}\n{}", Format::Decimal, self.decimal)
+        write!(f, "decimal\n{}", self.decimal)
     }
 }

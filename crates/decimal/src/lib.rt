@@ -6,27 +6,31 @@ ghost use Rattle.scientific.specs.Patterns.{setting as setting_of};
 ghost use Rattle.scientific.specs.Numbers.{units};
 ghost use Rattle.scientific.proofs.TheRules;
 ghost use Rattle.scientific.proofs.PlainValues;
+ghost use Rattle.decimal.specs.Making.{making, told_making};
 
 use arithmetic::Arithmetic;
 use arithmetic::cause::Cause;
+use refusal::Refusal;
 use scientific::number::Scientific;
 use scientific::precision::Precision;
 use scientific::written::Written;
 use scientific::{bytes, exact, lifting, products, sums};
 
+pub mod refusal;
+
+// Decimal with as many digits as its precision says.
 #[derive(Clone, Copy)]
 pub struct Decimal {
-    precision: Precision,
+    pub precision: Precision,
 }
 
 impl Decimal {
-    // Decimal with eight digits.
-    pub fn eight() -> Decimal
-        ensures { result.precision.digits ≡ 8 }
+    // Decimal with so many digits, four to eight; refused with 20 for any other count.
+    pub fn new(digits: u8) -> Result<Decimal, Refusal>
+        ensures { told_making result ≡ making digits }
     {
-        Decimal {
-            precision: Precision::eight(),
-        }
+        let precision = Precision::new(digits).ok_or(Refusal::Digits)?;
+        Ok(Decimal { precision })
     }
 }
 

@@ -85,8 +85,8 @@ pub extern "C" fn coef_card(format: u8, zeros: &[u64], answers: &mut [[u64; 2]])
             let mut cells = [empty(&Binary64); 65];
             work(&mut Binary64, &mut cells[..=highest_order], zeros, answers)
         }
-        Some(Format::Decimal) => {
-            let mut decimal = Decimal::eight();
+        Some(Format::Decimal(precision)) => {
+            let mut decimal = Decimal { precision };
             let mut cells = [empty(&decimal); 65];
             work(&mut decimal, &mut cells[..=highest_order], zeros, answers)
         }

@@ -1,4 +1,4 @@
-// What a program in C or in Rust can call: the report of a sheet, the operations of both arithmetics on patterns, and a card.
+// What a program in C or in Rust can call: the report of a sheet, the operations of each arithmetic on patterns, and a card.
 // A static library, over the crates below it.
 #![tactic(auto)]
 

@@ -1,4 +1,4 @@
-// The operations of both arithmetics, for a caller outside. A pattern is the number of 64 bits whose bytes, the highest first, are the
+// The operations of each arithmetic, for a caller outside. A pattern is the number of 64 bits whose bytes, the highest first, are the
 // pattern's.
 ghost use Rattle.std.specs.Prelude.{◌≡◌};
 ghost use Rattle.std.specs.Int.{w64, to_be_bytes, from_be_bytes};
@@ -117,7 +117,7 @@ pub extern "C" fn coef_operate(format: u8, operation: u8, a: u64, b: u64) -> Out
 {
     match Format::of_number(format) {
         Some(Format::Binary64) => work(&mut Binary64, operation, a, b),
-        Some(Format::Decimal) => work(&mut Decimal::eight(), operation, a, b),
+        Some(Format::Decimal(precision)) => work(&mut Decimal { precision }, operation, a, b),
         None => without_number(NO_OPERATION),
     }
 }

@@ -1,1 +1,2 @@
 pub mod EachRules
+mod Words

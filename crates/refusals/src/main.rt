@@ -1,4 +1,4 @@
-// Shows each refusal that a bench can give, by its number and details, and that of a report call, in binary64.
+// Shows each refusal that a bench can give, by its number and details, and that of a report call, in binary64; and that of making decimal.
 #![tactic(auto)]
 
 ghost use Rattle.std.specs.Prelude.{◌≡◌};
@@ -9,6 +9,7 @@ use bench::refusal::Refusal;
 use bench::{Bench, check_row};
 use binary64::Binary64;
 use calls::work::{add, ask, examine, withdraw};
+use decimal::Decimal;
 use patterns::Pattern;
 use reporting::of_report;
 use row::empty;
@@ -151,9 +152,19 @@ fn of_range(rt: &HostRuntime) -> io::Result<()> {
     show(rt, asked(&other, 1))
 }
 
+// 20: decimal is made with four to eight digits.
+fn show_making(rt: &HostRuntime, digits: u8) -> io::Result<()> {
+    match Decimal::new(digits) {
+        Ok(_) => println!(rt; "accepted"),
+        Err(refusal) => println!(rt; "R {}", refusal.number()),
+    }
+}
+
 fn main(rt: HostRuntime) -> io::Result<()> {
     show(&rt, check_row(&[empty(&Binary64); 1]))?;
     of_order_3(&rt)?;
     of_range(&rt)?;
-    of_report(&rt)
+    of_report(&rt)?;
+    show_making(&rt, 3)?;
+    show_making(&rt, 9)
 }

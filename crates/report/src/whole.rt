@@ -156,8 +156,8 @@ pub fn report_sheet<S: Sink>(sheet: &[u8], out: &mut S) -> Result<usize, S::Refu
                 let mut cells = [empty(&Binary64); 65];
                 report_opened(sheet, &mut Binary64, &mut cells, out)
             }
-            Format::Decimal => {
-                let mut decimal = Decimal::eight();
+            Format::Decimal(precision) => {
+                let mut decimal = Decimal { precision };
                 let mut cells = [empty(&decimal); 65];
                 report_opened(sheet, &mut decimal, &mut cells, out)
             }

@@ -25,3 +25,4 @@ pub mod PlainValues
 mod ExactNumbers
 mod GrainNumbers
 mod EvenTies
+pub mod Precisions

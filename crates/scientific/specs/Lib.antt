@@ -3,3 +3,4 @@ pub mod Patterns
 pub mod Numbers
 pub mod Ties
 pub mod Splits
+pub mod Precisions

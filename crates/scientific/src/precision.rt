@@ -1,8 +1,9 @@
 // How many digits the numbers of an arithmetic have.
-ghost use Rattle.std.specs.Prelude.{◌≡◌, ◌≤◌};
+ghost use Rattle.std.specs.Prelude.{◌≡◌, ◌≤◌, option_map};
+ghost use Rattle.scientific.specs.Precisions.{precision};
 
 // From four to eight digits.
-#[derive(Clone, Copy)]
+#[derive(Clone, Copy, PartialEq, Eq, Debug)]
 pub struct Precision {
     pub digits: u8,
     ghost least: { 4 ≤ digits },
@@ -10,9 +11,14 @@ pub struct Precision {
 }
 
 impl Precision {
-    pub fn eight() -> Precision
-        ensures { result.digits ≡ 8 }
+    // So many digits; none exactly where they are not from four to eight.
+    pub fn new(digits: u8) -> Option<Precision>
+        ensures { option_map (λ p. p.digits) result ≡ precision digits }
     {
-        Precision { digits: 8 }
+        if (4..=8).contains(&digits) {
+            Some(Precision { digits })
+        } else {
+            None
+        }
     }
 }

@@ -1,0 +1,25 @@
+-- Making decimal with d digits: it is made for four to eight digits, and refused with 20 for any other count.
+use Rattle.std.specs.Prelude.{ℕ, cond, Ok, Err, Result}
+use Rattle.scientific.specs.Precisions.{is_precision}
+use Rattle.decimal.specs.declared.Decimal.{Decimal}
+use Rattle.decimal.specs.declared.refusal.Refusal.{Refusal}
+use Rattle.decimal.specs.declared.refusal.Refusal.TheVariants.{Digits}
+
+-- what a making answers
+pub data Making : Type 0 where
+  -- decimal with so many digits
+  made : ℕ → Making
+  -- by the question with this number
+  refused : ℕ → Making
+
+-- 20: is d from four to eight?
+abbrev pub making : ℕ → Making
+making d = cond (is_precision d) (made d) (refused 20)
+
+-- ---- what the code answers
+abbrev pub refusal_number : Refusal → ℕ
+refusal_number Digits = 20
+
+abbrev pub told_making : Result Decimal Refusal → Making
+told_making (Ok a) = made a.precision.digits
+told_making (Err r) = refused (refusal_number r)
