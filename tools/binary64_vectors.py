@@ -4,6 +4,8 @@
 Library: GNU MPFR 4.2.0 (libmpfr.so.6, by ctypes), 53 bits, the exponents of IEEE 754 binary64 and mpfr_subnormalize, to nearest with ties
 to even. No operation of the machine's floats is used. Seed: 20260.
 
+The first part of crates/vectors/stdin; what decimal_vectors.py writes is the rest.
+
 usage: binary64_vectors.py [output path]
 """
 

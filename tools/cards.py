@@ -1,9 +1,9 @@
 #!/usr/bin/env python3
-"""Whole cards for binary64 and for decimal, with the answer of each call.
+"""Whole cards for binary64 and for decimal with eight, seven, six, five and four digits, with the answer of each call.
 
 A card is a bench of some highest order, to which zeros are added, and of which orders are asked and claims marked. Row, closing and verdict
 are worked here operation by operation over the outside libraries: GNU MPFR 4.2.0 for binary64, libmpdec 2.5.1 (Python's decimal module) for
-decimal. Seeds: 20262 and 20263.
+decimal. Seeds: 20262 for binary64, 20263 for decimal8, 20287, 20286, 20285 and 20284 for decimal7 to decimal4.
 
     card binary64 3      a card of highest order 3
     add X = Z 1              the number of the zero
@@ -11,17 +11,27 @@ decimal. Seeds: 20262 and 20263.
     mark 1 C T = M 1 right   the verdict on the claim C with the tolerance T: right, wrong or open
                              a refused call has `R`, the number of the refusal and its details
 
+crates/cards/stdout has the line that is wrong on purpose, with the right answer; then it counts the cards and calls of binary64, and those
+of decimal with any count of digits.
+
 usage: cards.py [output path]
 """
 
 import random
 from fractions import Fraction
 
-from outside import Binary64, Decimal8, heading
+from outside import Binary64, Decimal, heading, written
 from vector_lines import write
 
-SEEDS = {"binary64": 20262, "decimal": 20263}
-CARDS = 300
+# the seed of each arithmetic, and how many cards are dealt
+DEALT = {
+    "binary64": (20262, 300),
+    "decimal8": (20263, 300),
+    "decimal7": (20287, 60),
+    "decimal6": (20286, 60),
+    "decimal5": (20285, 60),
+    "decimal4": (20284, 60),
+}
 
 # written by hand: of highest order 3, with two zeros held, the third order is refused by 7
 BY_HAND = {
@@ -30,7 +40,7 @@ add 3FF0000000000000 = Z 1
 add 4000000000000000 = Z 2
 ask 3 = R 7
 """,
-    "decimal": """card decimal 3
+    "decimal8": """card decimal8 3
 add 00989680FFF90000 = Z 1
 add 01312D00FFF90000 = Z 2
 ask 3 = R 7
@@ -44,26 +54,31 @@ add 3FF0000000000000 = Z 1
 add 4000000000000000 = Z 3
 """
 
-# cards with known figures: the highest order and the zeros
-FIGURES = {
-    "binary64": [
-        (3, [1, 2, 3]),
-        (2, [Fraction(1, 2**450)] * 2),
-        (2, [Fraction(1, 2**460)] * 2),
-        (1, [2**900] * 2),
-    ],
-    "decimal": [
-        (3, [1, 2, 3]),
-        (2, [Fraction("1.0000001")] * 2),
-        (1, [10**10, 45, 45, -(10**10), Fraction("1.2345678")]),
-    ],
-}
 
-# patterns that are not admitted
-STRANGE = {
-    "binary64": ["7FF0000000000000", "FFF0000000000000", "7FF8000000000001", "7830000000000001", "F840000000000000"],
-    "decimal": ["0000000000010000", "0000000100000000", "00989680FFF90001", "0098968100210000", "FA0A1F0100210000"],
-}
+def known_figures(arith):
+    """Cards with known figures: the highest order and the zeros."""
+    if arith.name == "binary64":
+        return [
+            (3, [1, 2, 3]),
+            (2, [Fraction(1, 2**450)] * 2),
+            (2, [Fraction(1, 2**460)] * 2),
+            (1, [2**900] * 2),
+        ]
+    after_one = 1 + Fraction(1, arith.unit)
+    large = 1000 * arith.unit  # its last place is 1,000, so that adding 45 leaves it unchanged
+    return [
+        (3, [1, 2, 3]),
+        (2, [after_one] * 2),
+        (1, [large, 45, 45, -large, Fraction("1.2345678"[:arith.d + 1])]),
+    ]
+
+
+def not_admitted(arith):
+    """Patterns that are not admitted."""
+    if arith.name == "binary64":
+        return ["7FF0000000000000", "FFF0000000000000", "7FF8000000000001", "7830000000000001", "F840000000000000"]
+    unit, full, largest = arith.unit, arith.full, 41 - arith.d
+    return [written(0, 1), written(1, 0), written(unit, 1 - arith.d, 1), written(unit + 1, largest), written(1 - full, largest)]
 
 
 class Refused(Exception):
@@ -167,12 +182,15 @@ class Bench:
 class Dealer:
     """Deals cards of one arithmetic, and writes their lines."""
 
-    def __init__(self, arith):
+    def __init__(self, arith, seed):
         self.arith = arith
-        self.dealt = random.Random(SEEDS[arith.name])
+        self.seed = seed
+        self.dealt = random.Random(seed)
         # the limits are about 10^-reach and 10^reach
         self.reach = 270 if arith.name == "binary64" else 40
-        self.strange = STRANGE[arith.name]
+        # some numbers are dealt to differ in the last of so many digits; binary64 has more
+        self.digits = 8 if arith.name == "binary64" else arith.d
+        self.strange = not_admitted(arith)
 
     def number(self, low, high):
         """A number between powers of ten, of few digits or of many."""
@@ -182,7 +200,7 @@ class Dealer:
             exponent = self.dealt.randint(round(low * 3.321928), round(high * 3.321928))
             size = Fraction(self.dealt.getrandbits(bits) | 1 << (bits - 1)) * Fraction(2) ** (exponent - bits)
         else:
-            digits = 2 if short else 8
+            digits = 2 if short else self.digits
             size = self.dealt.randrange(10 ** (digits - 1), 10**digits) * Fraction(10) ** (self.dealt.randint(low, high) - digits)
         return -size if self.dealt.random() < 0.5 else size
 
@@ -196,7 +214,7 @@ class Dealer:
 
     def zeros(self, kind, n):
         """The zeros of a card."""
-        deal, reach = self.dealt, self.reach
+        deal, reach, digits = self.dealt, self.reach, self.digits
         if kind == "near one":
             return [self.number(0, 1) for _ in range(n)]
         if kind == "mixed":
@@ -205,7 +223,7 @@ class Dealer:
             return [Fraction(deal.randint(-9, 9)) for _ in range(n)]
         if kind == "alike":
             middle = self.number(-1, 1)
-            return [deal.choice([1, -1]) * (self.arith.sum(middle, self.number(-7, -5)) or middle) for _ in range(n)]
+            return [deal.choice([1, -1]) * (self.arith.sum(middle, self.number(1 - digits, 3 - digits)) or middle) for _ in range(n)]
         if kind == "far apart":
             return [self.number(-reach // 4, reach // 4) for _ in range(n)]
         if kind == "large":
@@ -215,17 +233,17 @@ class Dealer:
         if kind == "at the top":  # sums that come to the upper limit
             return [self.number(reach, reach + 1 if self.arith.name == "binary64" else reach) for _ in range(n)]
         if kind == "faint":  # sums whose errors are too small to be multiplied
-            return [self.number(-reach + 6, -reach + 18) for _ in range(n)]
+            return [self.number(-reach + max(2 * digits - 10, 1), -reach + 2 * digits + 2) for _ in range(n)]
         return [deal.choice([self.number(-1, 1), Fraction(0)]) for _ in range(n)]
 
     def claim(self, value, bound):
         """A claim about a value, and a tolerance."""
-        deal, high = self.dealt, self.arith.high
+        deal, high, digits = self.dealt, self.arith.high, self.digits
         twice = self.total(bound, bound)
-        apart = deal.choice([Fraction(0), bound, -twice, self.number(-9, 0), self.number(-7, -4)])
+        apart = deal.choice([Fraction(0), bound, -twice, self.number(-1 - digits, 0), self.number(1 - digits, 4 - digits)])
         claims = [value, self.total(value, apart), -value, self.number(-3, 3), high, -high]
         claim = deal.choices(claims, [6, 16, 1, 2, 1, 1])[0]
-        tolerances = [Fraction(0), bound, twice, abs(apart), self.total(abs(apart), twice), abs(self.number(-9, 0)), high,
+        tolerances = [Fraction(0), bound, twice, abs(apart), self.total(abs(apart), twice), abs(self.number(-1 - digits, 0)), high,
                       -abs(self.number(-3, 0))]
         return claim, deal.choices(tolerances, [4, 4, 4, 4, 4, 4, 1, 1])[0]
 
@@ -293,12 +311,13 @@ class Dealer:
         lines += [self.marked(bench, k) for k in (1, 32, 64)]
         return lines
 
-    def text(self):
-        lines = [heading(self.arith, "whole cards by tools/cards.py", SEEDS[self.arith.name])]
-        for highest, zeros in FIGURES[self.arith.name]:
+    def text(self, count):
+        """So many dealt cards, after those with known figures and a full one."""
+        lines = [heading(self.arith, "whole cards by tools/cards.py", self.seed)]
+        for highest, zeros in known_figures(self.arith):
             lines += self.figures(highest, zeros)
         lines += self.full()
-        for _ in range(CARDS):
+        for _ in range(count):
             lines += self.card()
         return "\n".join(lines) + "\n"
 
@@ -324,9 +343,10 @@ def marked_line(bench, k, claim, tolerance):
 
 
 def main():
-    text = "# by hand\n" + BY_HAND["binary64"] + BY_HAND["decimal"] + WRONG
-    for arith in (Binary64(), Decimal8()):
-        text += Dealer(arith).text()
+    text = "# by hand\n" + BY_HAND["binary64"] + BY_HAND["decimal8"] + WRONG
+    for arith in (Binary64(), *map(Decimal, range(8, 3, -1))):
+        seed, count = DEALT[arith.name]
+        text += Dealer(arith, seed).text(count)
     write(text)
 
 

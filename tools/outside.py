@@ -1,4 +1,4 @@
-"""Two arithmetics over outside libraries: binary64 over GNU MPFR, eight-digit decimal over libmpdec (Python's decimal module).
+"""The arithmetics over outside libraries: binary64 over GNU MPFR, decimal with four to eight digits over libmpdec (Python's decimal).
 
 Values are exact fractions. The library rounds; the limits, the refusals and the error parts are worked here on the fractions, straight
 from their definitions. A refused operation gives None.
@@ -11,7 +11,7 @@ from fractions import Fraction
 
 
 class Arithmetic:
-    """What both arithmetics have: everything but the rounding and the patterns."""
+    """What all arithmetics have: everything but the rounding and the patterns."""
 
     def sum(self, a, b):
         r = self.rounded_sum(a, b)
@@ -165,19 +165,21 @@ class Binary64(Arithmetic):
         return a, 0
 
 
-class Decimal8(Arithmetic):
-    """Decimal with eight digits by libmpdec: results below 10^-63 are rounded to a multiple of 10^-70."""
+class Decimal(Arithmetic):
+    """Decimal with d digits by libmpdec: results below 10^(d - 71) are rounded to a multiple of 10^-70."""
 
-    name = "decimal"
     Q = 10**70
-    U = 2 * 10**7
     low = Fraction(1, 10**40)
     high = Fraction(10**40)
 
-    def __init__(self):
+    def __init__(self, d):
+        self.d = d
+        self.name = f"decimal{d}"
+        self.unit, self.full = 10 ** (d - 1), 10**d  # M of d digits is from unit to full - 1
+        self.U = 2 * self.unit
         self.library = "libmpdec " + decimal.__libmpdec_version__
         self.context = decimal.Context(
-            prec=8, rounding=decimal.ROUND_HALF_EVEN, Emin=-63, Emax=999999, clamp=0, traps=[])
+            prec=d, rounding=decimal.ROUND_HALF_EVEN, Emin=d - 71, Emax=999999, clamp=0, traps=[])
         assert self.context.Etiny() == -70
 
     def made(self, a):
@@ -202,7 +204,7 @@ class Decimal8(Arithmetic):
         units = a * self.Q
         assert units.denominator == 1
         size, exponent = abs(units.numerator), -70
-        while size >= 10**8:
+        while size >= self.full:
             size, rest = divmod(size, 10)
             assert rest == 0
             exponent += 1
@@ -219,8 +221,8 @@ class Decimal8(Arithmetic):
         digits = len(str(abs(significand))) if significand else 0
         one_form = (
             (digits == 0 and exponent == 0)
-            or (digits == 8 and -70 <= exponent <= 33)
-            or (1 <= digits <= 7 and exponent == -70))
+            or (digits == self.d and -70 <= exponent <= 41 - self.d)
+            or (1 <= digits < self.d and exponent == -70))
         if not one_form or data[6:8] != b"\0\0":
             return None, 3
         a = significand * Fraction(10) ** exponent
@@ -231,7 +233,6 @@ def written(significand, exponent, tail=0):
     """A decimal pattern: M in four bytes, e in two, and two bytes more."""
     data = significand.to_bytes(4, "big", signed=True) + exponent.to_bytes(2, "big", signed=True) + tail.to_bytes(2, "big")
     return data.hex().upper()
-
 
 
 def heading(arith, what, seed):

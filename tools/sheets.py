@@ -1,8 +1,9 @@
 #!/usr/bin/env python3
-"""Whole sheets for binary64 and for decimal, with the report of each.
+"""Whole sheets for binary64 and for decimal with four to eight digits, with the report of each.
 
 A sheet is read and worked here by the rules of docs/SHEET.md, apart from the code, on the bench of cards.py, whose operations are those of
-the outside libraries: GNU MPFR 4.2.0 for binary64, libmpdec 2.5.1 (Python's decimal module) for decimal. Seeds: 20264 and 20265.
+the outside libraries: GNU MPFR 4.2.0 for binary64, libmpdec 2.5.1 (Python's decimal module) for decimal. Seeds: 20264 for binary64, 20265
+for decimal8, 20294 to 20297 for decimal4 to decimal7.
 
 The first file has a comment and a line for each sheet. All digits are hexadecimal, two for each byte.
 
@@ -20,13 +21,21 @@ import sys
 from fractions import Fraction
 
 from cards import Bench, Dealer, Refused, added_line, asked_line, marked_line
-from outside import Binary64, Decimal8, heading, written
+from outside import Binary64, Decimal, heading, written
 
-SEEDS = {"binary64": 20264, "decimal": 20265}
-SHEETS = 100  # dealt for each arithmetic
+# the seed of each arithmetic, and how many sheets are dealt
+DEALT = {
+    "binary64": (20264, 100),
+    "decimal8": (20265, 100),
+    "decimal4": (20294, 25),
+    "decimal5": (20295, 25),
+    "decimal6": (20296, 25),
+    "decimal7": (20297, 25),
+}
 
-NUMBER = {"binary64": 1, "decimal": 2}
-ARITHMETIC = {1: Binary64(), 2: Decimal8()}
+# the arithmetics by their number in a header
+ARITHMETIC = {1: Binary64(), 2: Decimal(8), 4: Decimal(4), 5: Decimal(5), 6: Decimal(6), 7: Decimal(7)}
+NUMBER = {arith.name: number for number, arith in ARITHMETIC.items()}
 LONGEST = 32768
 MAPS = (0, 1, 2, 3, 14, 15)
 ZERO, ORDER, CLAIM, TOLERANCE = 1, 2, 4, 8
@@ -177,11 +186,13 @@ def out_of_range(w):
         # the sum of the first and the others is the first; its square is in range
         long, short, far = 3 * two**448, two**395, two**600
     else:
-        ten = Fraction(10)
-        top, half, tiny, small = ten**40, 5 * ten**32, ten**-41, ten**-40
-        near_small = small + ten**-47
-        faint = [w.add(ten**-30), w.add(Fraction("1.2345678") * ten**-31)]
-        long, short, far = 15 * ten**18, 4 * ten**11, ten**30
+        d, ten = w.arith.d, Fraction(10)
+        top, half, tiny, small = ten**40, 5 * ten ** (40 - d), ten**-41, ten**-40
+        near_small = small + ten ** (-39 - d)
+        # the error of the sum is some 10^-d of it, and multiplied by a grain of some 10^(1 - d) it is below low
+        first = ten ** (2 * d - 46)
+        faint = [w.add(first), w.add(Fraction("1.2345678"[:d + 1]) * first / 10)]
+        long, short, far = 15 * ten**18, 4 * ten ** (19 - d), ten**30
     full = [w.add(top), w.add(half)]
     return [
         ("4: a zero below low", w.sheet(2, w.add(tiny), w.add(-tiny), w.ask(0))),
@@ -217,15 +228,17 @@ def strange_patterns(w):
             ("2, above 2^900", "7830000000000001"),
             ("2, below -2^900", "F840000000000000"),
         ]
+    d, unit, full = w.arith.d, w.arith.unit, w.arith.full
+    more = ("five", "six", "seven", "eight", "nine")[d - 4]
     return [
-        ("3, zero with an exponent", "0000000000010000"),
-        ("3, one digit at exponent 0", "0000000100000000"),
-        ("3, other last bytes", "00989680FFF90001"),
-        ("3, exponent 34", written(10000000, 34).upper()),
-        ("3, exponent -71", written(10000000, -71).upper()),
-        ("3, nine digits", written(100000000, 0).upper()),
-        ("2, above 10^40", written(10000001, 33).upper()),
-        ("2, below -10^40", written(-10000001, 33).upper()),
+        ("3, zero with an exponent", written(0, 1)),
+        ("3, one digit at exponent 0", written(1, 0)),
+        ("3, other last bytes", written(unit, 1 - d, 1)),
+        (f"3, exponent {42 - d}", written(unit, 42 - d)),
+        ("3, exponent -71", written(unit, -71)),
+        (f"3, {more} digits", written(full, 0)),
+        ("2, above 10^40", written(unit + 1, 41 - d)),
+        ("2, below -10^40", written(-unit - 1, 41 - d)),
     ]
 
 
@@ -284,10 +297,10 @@ def openings(files):
     files.case("13: one byte, which names no arithmetic", b"\3")
     files.case("13: 32,769 bytes", b"\1\3", LONGEST - 1, b"\0")
     files.case("13: 32,769 bytes, which name no arithmetic", b"\0\0", LONGEST - 1, b"\0")
-    for first in (0, 3, 255):
+    for first in (0, 3, 8, 9, 255):
         files.case(f"14: first byte {first}", bytes([first, 3]))
         files.case(f"14 comes before 15: first byte {first}, K 0", bytes([first, 0, 0]))
-    for format in (1, 2):
+    for format in ARITHMETIC:
         for highest in (0, 65, 255):
             files.case(f"15: arithmetic {format}, K {highest}", bytes([format, highest]))
         for highest in (1, 64):
@@ -310,7 +323,7 @@ def minus_zero(files):
     files.case("binary64: minus zero as a zero, a claim and a tolerance",
                w.sheet(2, w.add_ask(zero, 1), w.mark(1, zero, zero), w.add_mark(1, 1, -1, zero), w.mark(1, zero, 2), w.ask(2)))
     files.case("binary64: the smallest number below zero is no tolerance", w.sheet(2, w.add_mark(zero, 1, zero, "8000000000000001")))
-    files.case("decimal: a sign without digits is in no form", bytes.fromhex("020201" + zero))
+    files.case("decimal8: a sign without digits is in no form", bytes.fromhex("020201" + zero))
 
 
 def last_maps(files):
@@ -322,9 +335,8 @@ def last_maps(files):
 class SheetDealer(Dealer):
     """Deals sheets of one arithmetic, with the numbers, claims and orders of the cards."""
 
-    def __init__(self, arith):
-        super().__init__(arith)
-        self.dealt = random.Random(SEEDS[arith.name])
+    def __init__(self, arith, seed):
+        super().__init__(arith, seed)
         self.writer = Writer(arith)
 
     def slip(self, bench):
@@ -369,9 +381,9 @@ class SheetDealer(Dealer):
             return "cut short", sheet[:deal.randrange(len(sheet))]
         return "whole", sheet
 
-    def deal_sheets(self, files):
-        files.comment(heading(self.arith, f"sheets in {self.arith.name} by tools/sheets.py", SEEDS[self.arith.name]))
-        for i in range(SHEETS):
+    def deal_sheets(self, files, count):
+        files.comment(heading(self.arith, f"sheets in {self.arith.name} by tools/sheets.py", self.seed))
+        for i in range(count):
             what, sheet = self.damaged(self.sheet())
             files.case(f"{self.arith.name} {i + 1}, {what}", sheet)
 
@@ -388,10 +400,11 @@ def main():
         faults(w, files)
     minus_zero(files)
     last_maps(files)
+    for number in (1, 2, 4):  # binary64, and decimal with most and with fewest digits
+        long_sheets(Writer(ARITHMETIC[number]), files)
     for arith in ARITHMETIC.values():
-        long_sheets(Writer(arith), files)
-    for arith in ARITHMETIC.values():
-        SheetDealer(arith).deal_sheets(files)
+        seed, count = DEALT[arith.name]
+        SheetDealer(arith, seed).deal_sheets(files, count)
     for path, lines in zip(sys.argv[1:3], (files.sheets, files.reports), strict=True):
         with open(path, "w", encoding="ascii") as file:
             file.write("\n".join(lines) + "\n")

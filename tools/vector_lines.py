@@ -1,4 +1,4 @@
-"""The lines of operation vectors, for either arithmetic. Operands are patterns of 16 hexadecimal digits.
+"""The lines of operation vectors, for any of the arithmetics. Operands are patterns of 16 hexadecimal digits.
 
     sum A B = R E        the rounded sum and its error part, the answers of the rounded sum (R) and of the sum split (both)
     product A B = R E    the same of the product
