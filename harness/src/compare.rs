@@ -1,7 +1,7 @@
-//! The proved library against the plain implementation: operations on patterns, and whole sheets.
+//! The proved library against the plain implementation: operations on patterns, whole sheets, and numbers that name no format.
 
-use crate::proved::{self, Answer, Format, Operation};
-use crate::radix::{Binary64, Decimal, Number, Radix, at_most, lift, product_split, sum_split};
+use crate::proved::{self, Answer, FORMATS, Format, Operation, in_format};
+use crate::radix::{Number, Radix, at_most, lift, product_split, sum_split};
 use crate::random::{Random, any_pattern, any_sheet, beside};
 use crate::sheet;
 use std::collections::BTreeMap;
@@ -47,13 +47,6 @@ fn answer<R: Radix>(operation: Operation, a: u64, b: u64) -> Answer {
     }
 }
 
-fn plain(format: Format, operation: Operation, a: u64, b: u64) -> Answer {
-    match format {
-        Format::Binary64 => answer::<Binary64>(operation, a, b),
-        Format::Decimal => answer::<Decimal>(operation, a, b),
-    }
-}
-
 const OPERATIONS: [Operation; 5] =
     [Operation::SumSplit, Operation::ProductSplit, Operation::Lift, Operation::Admission, Operation::Comparison];
 
@@ -62,30 +55,83 @@ fn outcome_name(outcome: u8) -> &'static str {
     ["answered", "not admitted (1)", "not admitted (2)", "not admitted (3)", "refused"][outcome as usize]
 }
 
-/// Compares each operation of both arithmetics on so many random operands. Answers how many differ.
+/// A first and a second operand; the second one of a lift is a count and no pattern.
+fn any_operands<R: Radix>(operation: Operation, random: &mut Random) -> (u64, u64) {
+    let a = any_pattern::<R>(random);
+    let b = if operation == Operation::Lift { random.below(193) } else { beside::<R>(random, a) };
+    (a, b)
+}
+
+/// Compares an operation of a format on so many random operands. Answers how many differ.
+fn operation_in<R: Radix>(format: Format, operation: Operation, seed: u64, count: u64) -> u64 {
+    let mut random = Random(seed ^ (format.number() as u64) << 8 ^ (operation as u64) << 16);
+    let mut score = Score::default();
+    let mut outcomes = BTreeMap::<u8, u64>::new();
+    for _ in 0..count {
+        let (a, b) = any_operands::<R>(operation, &mut random);
+        let (expected, got) = (answer::<R>(operation, a, b), proved::operate(format, operation, a, b));
+        score.note(expected == got);
+        *outcomes.entry(expected.outcome).or_default() += 1;
+        if expected != got && score.differ <= SHOWN {
+            println!("differ: {format:?} {operation:?} {a:016X} {b:016X}: plain {expected:X?}, proved {got:X?}");
+        }
+    }
+    let counts: Vec<_> = outcomes.iter().map(|(&outcome, n)| format!("{n} {}", outcome_name(outcome))).collect();
+    println!("{format:?} {operation:?}: {} agree, {} differ ({})", score.agree, score.differ, counts.join(", "));
+    score.differ
+}
+
+/// Compares each operation of each format on so many random operands. Answers how many differ.
 pub fn operands(seed: u64, count: u64) -> u64 {
     let mut differ = 0;
-    for format in [Format::Binary64, Format::Decimal] {
+    for format in FORMATS {
         for operation in OPERATIONS {
-            let mut random = Random(seed ^ (format as u64) << 8 ^ (operation as u64) << 16);
-            let mut score = Score::default();
-            let mut outcomes = BTreeMap::<u8, u64>::new();
-            for _ in 0..count {
-                let a = any_pattern(format, &mut random);
-                let b = if operation == Operation::Lift { random.below(193) } else { beside(format, &mut random, a) };
-                let (expected, got) = (plain(format, operation, a, b), proved::operate(format, operation, a, b));
-                score.note(expected == got);
-                *outcomes.entry(expected.outcome).or_default() += 1;
-                if expected != got && score.differ <= SHOWN {
-                    println!("differ: {format:?} {operation:?} {a:016X} {b:016X}: plain {expected:X?}, proved {got:X?}");
-                }
-            }
-            let counts: Vec<_> = outcomes.iter().map(|(&outcome, n)| format!("{n} {}", outcome_name(outcome))).collect();
-            println!("{format:?} {operation:?}: {} agree, {} differ ({})", score.agree, score.differ, counts.join(", "));
-            differ += score.differ;
+            differ += in_format!(format, R => operation_in::<R>(format, operation, seed, count));
         }
     }
     differ
+}
+
+/// Some numbers that name no format, and how often each operation and a card are called by each.
+const NAMELESS: [u8; 5] = [0, 3, 8, 9, 255];
+const NAMELESS_CALLS: usize = 100;
+
+/// An operation by a number that names no format answers 5 and zeros, whatever its operands are.
+fn operate_nameless(number: u8, operation: Operation, random: &mut Random, score: &mut Score) {
+    let (a, b) = in_format!(random.choose(&FORMATS), R => any_operands::<R>(operation, random));
+    let got = proved::operate_by_number(number, operation, a, b);
+    let agrees = got == Answer { outcome: 5, main: 0, error: 0 };
+    score.note(agrees);
+    if !agrees && score.differ <= SHOWN {
+        println!("differ: no format {number} {operation:?} {a:016X} {b:016X}: proved {got:X?}");
+    }
+}
+
+/// A card by a number that names no format leaves the answers as they are.
+fn work_nameless(number: u8, random: &mut Random, score: &mut Score) {
+    let count = random.below(5);
+    let zeros: Vec<u64> = in_format!(random.choose(&FORMATS), R => (0..count).map(|_| any_pattern::<R>(random)).collect());
+    let before: Vec<[u64; 2]> = (0..random.below(7)).map(|_| [random.next(), random.next()]).collect();
+    let mut answers = before.clone();
+    proved::card_by_number(number, &zeros, &mut answers);
+    score.note(answers == before);
+    if answers != before && score.differ <= SHOWN {
+        println!("differ: no format {number}, a card of {zeros:016X?}: before {before:016X?}, proved {answers:016X?}");
+    }
+}
+
+/// Compares calls by numbers that name no format with what is defined for them. Answers how many differ.
+pub fn nameless(seed: u64) -> u64 {
+    let mut random = Random(seed);
+    let mut score = Score::default();
+    for number in [NAMELESS; NAMELESS_CALLS].concat() {
+        for operation in OPERATIONS {
+            operate_nameless(number, operation, &mut random, &mut score);
+        }
+        work_nameless(number, &mut random, &mut score);
+    }
+    println!("numbers that name no format: {} agree, {} differ", score.agree, score.differ);
+    score.differ
 }
 
 /// Counts the lines of a report by what they say.

@@ -9,6 +9,7 @@ mod random;
 mod sheet;
 mod speed;
 
+use crate::proved::Format;
 use std::process::ExitCode;
 
 /// The number after a name on the command line, or else the given one.
@@ -23,8 +24,8 @@ fn main() -> ExitCode {
     match arguments.first().map(String::as_str) {
         Some("compare") => {
             let (operands, sheets) = (option(&arguments, "--operands", 200_000), option(&arguments, "--sheets", 20_000));
-            println!("seed {seed}, {operands} operands for each operation, {sheets} sheets");
-            let differ = compare::operands(seed, operands) + compare::sheets(seed, sheets);
+            println!("seed {seed}, {operands} operands for each operation and format, {sheets} sheets");
+            let differ = compare::operands(seed, operands) + compare::nameless(seed) + compare::sheets(seed, sheets);
             println!("{differ} differ");
             if differ == 0 { ExitCode::SUCCESS } else { ExitCode::FAILURE }
         }
@@ -33,8 +34,9 @@ fn main() -> ExitCode {
             ExitCode::SUCCESS
         }
         Some("card") => {
-            let (format, zeros) = (option(&arguments, "--format", 1), option(&arguments, "--zeros", 64));
-            speed::work_card(seed, format as u8, zeros as usize, option(&arguments, "--times", 10_000) as usize);
+            let (number, zeros) = (option(&arguments, "--format", 1), option(&arguments, "--zeros", 64));
+            let format = u8::try_from(number).ok().and_then(Format::of_number).expect("the number of a format");
+            speed::work_card(seed, format, zeros as usize, option(&arguments, "--times", 10_000) as usize);
             ExitCode::SUCCESS
         }
         Some("decimal-cards") => {
@@ -43,7 +45,7 @@ fn main() -> ExitCode {
         }
         _ => {
             println!("compare [--seed S] [--operands N] [--sheets N] | speed [--seed S] [--repetitions N]");
-            println!("card [--seed S] [--format 1 or 2] [--zeros N] [--times T] | decimal-cards [--seed S]");
+            println!("card [--seed S] [--format 1, 2 or 4 to 7] [--zeros N] [--times T] | decimal-cards [--seed S]");
             ExitCode::FAILURE
         }
     }

@@ -1,11 +1,62 @@
 //! The proved library, as it is called from outside.
 
-/// The two arithmetics, by their number in a sheet's header.
+/// The formats of numbers, by their number in a sheet's header: that of decimal with four to seven digits is how many it has.
 #[derive(Clone, Copy, PartialEq, Eq, Debug)]
 pub enum Format {
     Binary64 = 1,
-    Decimal = 2,
+    Decimal8 = 2,
+    Decimal4 = 4,
+    Decimal5 = 5,
+    Decimal6 = 6,
+    Decimal7 = 7,
 }
+
+pub const FORMATS: [Format; 6] =
+    [Format::Binary64, Format::Decimal8, Format::Decimal4, Format::Decimal5, Format::Decimal6, Format::Decimal7];
+
+impl Format {
+    pub fn number(self) -> u8 {
+        self as u8
+    }
+
+    /// None where the number names no format.
+    pub fn of_number(number: u8) -> Option<Format> {
+        FORMATS.into_iter().find(|format| format.number() == number)
+    }
+}
+
+/// What an expression gives where a name in it is the plain arithmetic of a format: `in_format!(format, R => plain_card::<R>(zeros))`.
+macro_rules! in_format {
+    ($format:expr, $R:ident => $work:expr) => {
+        match $format {
+            $crate::proved::Format::Binary64 => {
+                type $R = $crate::radix::Binary64;
+                $work
+            }
+            $crate::proved::Format::Decimal8 => {
+                type $R = $crate::radix::Decimal<8>;
+                $work
+            }
+            $crate::proved::Format::Decimal4 => {
+                type $R = $crate::radix::Decimal<4>;
+                $work
+            }
+            $crate::proved::Format::Decimal5 => {
+                type $R = $crate::radix::Decimal<5>;
+                $work
+            }
+            $crate::proved::Format::Decimal6 => {
+                type $R = $crate::radix::Decimal<6>;
+                $work
+            }
+            $crate::proved::Format::Decimal7 => {
+                type $R = $crate::radix::Decimal<7>;
+                $work
+            }
+        }
+    };
+}
+pub(crate) use in_format;
 
 #[derive(Clone, Copy, PartialEq, Eq, Debug)]
 pub enum Operation {
@@ -16,7 +67,8 @@ pub enum Operation {
     Comparison = 5,
 }
 
-/// What an operation answers: outcome 0 with its patterns, 1 to 3 an operand that is no number with its cause, 4 refused.
+/// What an operation answers: outcome 0 with its patterns, 1 to 3 an operand that is no number with its cause, 4 refused, 5 a number that
+/// names no format.
 #[repr(C)]
 #[derive(Clone, Copy, PartialEq, Eq, Debug)]
 pub struct Answer {
@@ -48,12 +100,22 @@ pub fn report_into(sheet: &[u8], buffer: &mut [u8]) -> usize {
 }
 
 pub fn operate(format: Format, operation: Operation, a: u64, b: u64) -> Answer {
-    unsafe { coef_operate(format as u8, operation as u8, a, b) }
+    operate_by_number(format.number(), operation, a, b)
+}
+
+/// The same by a number, which need not name a format.
+pub fn operate_by_number(format: u8, operation: Operation, a: u64, b: u64) -> Answer {
+    unsafe { coef_operate(format, operation as u8, a, b) }
 }
 
 /// Works a card; the answers are values and bounds of the orders from 0 up, as many as there is room for. One that is refused stays.
 pub fn card(format: Format, zeros: &[u64], answers: &mut [[u64; 2]]) {
-    unsafe { coef_card(format as u8, zeros.as_ptr(), zeros.len(), answers.as_mut_ptr(), answers.len()) }
+    card_by_number(format.number(), zeros, answers);
+}
+
+/// The same by a number, which need not name a format.
+pub fn card_by_number(format: u8, zeros: &[u64], answers: &mut [[u64; 2]]) {
+    unsafe { coef_card(format, zeros.as_ptr(), zeros.len(), answers.as_mut_ptr(), answers.len()) }
 }
 
 /// Works a card so many times.

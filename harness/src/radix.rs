@@ -1,5 +1,5 @@
-//! Numbers of P digits in base B, by their definition: whole numbers of at most 128 bits, rounded once. Binary64 and decimal with eight
-//! digits are both of this kind, with U = 2 B^(P-1). No floating-point operation is used.
+//! Numbers of P digits in base B, by their definition: whole numbers of at most 128 bits, rounded once. Binary64 and decimal with four to
+//! eight digits are of this kind, with U = 2 B^(P-1). No floating-point operation is used.
 
 use std::cmp::Ordering;
 
@@ -11,7 +11,7 @@ pub trait Radix: Copy {
     const LEAST: i32;
     /// low is BASE^-LIMIT, high is BASE^LIMIT
     const LIMIT: i32;
-    /// numbers whose exponents differ by more leave each other as they are; the sum of two within it fits 128 bits
+    /// numbers whose exponents differ by more leave each other as they are, so it is above DIGITS; the sum of two within it fits 128 bits
     const FAR: i32;
 
     /// The number that eight bytes are admitted as, or the cause.
@@ -136,9 +136,12 @@ fn signed(a: Number) -> i128 {
 
 /// The rounded sum and its error part; refused above high.
 pub fn sum_split<R: Radix>(a: Number, b: Number) -> Option<(Number, Number)> {
+    const { assert!(R::FAR > R::DIGITS as i32 && R::BASE.pow(R::DIGITS + R::FAR as u32) < 1 << 126) };
     let (coarse, fine) = if a.exponent < b.exponent { (b, a) } else { (a, b) };
     let gap = coarse.exponent - fine.exponent;
     if gap > R::FAR {
+        // the coarse one has all its digits, so that every other number is BASE^-1 of its unit away or more; the fine one is below BASE^-2
+        // of that unit, and so below half of this
         return Some((coarse, fine));
     }
     let shifted = signed(coarse) * power::<R>(gap as u32) as i128;
@@ -245,16 +248,16 @@ impl Radix for Binary64 {
     }
 }
 
-/// Decimal with eight digits, with the limits 10^-40 and 10^40.
+/// Decimal with D digits, from four to eight, with the limits 10^-40 and 10^40.
 #[derive(Clone, Copy)]
-pub struct Decimal;
+pub struct Decimal<const D: u32>;
 
-impl Radix for Decimal {
+impl<const D: u32> Radix for Decimal<D> {
     const BASE: u128 = 10;
-    const DIGITS: u32 = 8;
+    const DIGITS: u32 = D;
     const LEAST: i32 = -70;
     const LIMIT: i32 = 40;
-    const FAR: i32 = 28;
+    const FAR: i32 = 36 - D as i32;
 
     fn admit(bytes: [u8; 8]) -> Result<Number, u8> {
         let m = i32::from_be_bytes(bytes[..4].try_into().unwrap());
@@ -263,11 +266,10 @@ impl Radix for Decimal {
             return Err(3);
         }
         let digits = m.unsigned_abs() as u128;
-        let in_form = match digits {
+        let in_form = match count_digits::<Self>(digits) {
             0 => e == 0,
-            1..=9_999_999 => e == -70,
-            10_000_000..=99_999_999 => (-70..=33).contains(&e),
-            _ => false,
+            count if count < D => e == -70,
+            count => count == D && (-70..=41 - D as i32).contains(&e),
         };
         if !in_form {
             return Err(3);

@@ -1,8 +1,8 @@
 //! Random patterns, operands and sheets: over the whole range, near the limits, ties, cancellation, subnormal numbers, and damage.
 
 use crate::bench::Bench;
-use crate::proved::Format;
-use crate::radix::{Binary64, Decimal, Number, Radix, lift, negative, size, sum};
+use crate::proved::{FORMATS, in_format};
+use crate::radix::{Number, Radix, lift, negative, size, sum};
 
 /// SplitMix64.
 pub struct Random(pub u64);
@@ -39,8 +39,18 @@ fn binary_pattern(negative: bool, exponent_field: u64, fraction: u64) -> u64 {
     (negative as u64) << 63 | exponent_field << 52 | (fraction & ((1 << 52) - 1))
 }
 
-fn decimal_pattern(m: i32, e: i16) -> u64 {
+pub fn decimal_pattern(m: i64, e: i64) -> u64 {
     (m as u32 as u64) << 32 | (e as u16 as u64) << 16
+}
+
+/// 10^k
+pub fn ten(k: u32) -> i64 {
+    10i64.pow(k)
+}
+
+/// The exponent of 10^k where it is written with so many digits.
+pub fn exponent_of_ten(digits: u32, k: i64) -> i64 {
+    k - (digits as i64 - 1)
 }
 
 /// A fraction: random, with few bits, or all ones but few.
@@ -76,90 +86,96 @@ pub fn any_binary(random: &mut Random) -> u64 {
     }
 }
 
-/// Eight digits: random, few and zeros, or nines.
-fn eight_digits(random: &mut Random) -> i32 {
-    let any = random.from_to(10_000_000, 99_999_999) as i32;
-    let cut = 10i32.pow(random.below(8) as u32);
+/// So many digits: random, few and zeros, or nines.
+fn all_digits(digits: u32, random: &mut Random) -> i64 {
+    let (least, end) = (ten(digits - 1), ten(digits));
+    let any = random.from_to(least, end - 1);
+    let cut = ten(random.below(digits as u64) as u32);
     match random.below(5) {
         0 => any / cut * cut,
-        1 => 100_000_000 - cut,
-        2 => 10_000_000 + cut / 10,
+        1 => end - cut,
+        2 => least + cut / 10,
         _ => any,
     }
 }
 
-pub fn any_decimal(random: &mut Random) -> u64 {
+pub fn any_decimal(digits: u32, random: &mut Random) -> u64 {
     let sign = random.choose(&[1, -1]);
+    let (least, end) = (ten(digits - 1), ten(digits));
+    let at = |k| exponent_of_ten(digits, k);
+    let full = |random: &mut Random, from, to| decimal_pattern(sign * all_digits(digits, random), random.from_to(from, to));
     match random.below(16) {
-        // the limits and what lies beside them
+        // the limits and what lies beside them, of the exponents too
         0 => decimal_pattern(
-            sign * random.choose(&[10_000_000, 10_000_001, 99_999_999]),
-            random.choose(&[33, 32, -47, -48, -7, -8, 13, -27, -70]),
+            sign * random.choose(&[least, least + 1, end - 1]),
+            random.choose(&[at(41), at(40), at(39), at(-40), at(-41), at(0), at(-1), at(20), at(-20), -70, -71]),
         ),
-        // zero, and patterns that are not in the one form
+        // zero, and patterns that are not in the one form, some of them in that of another count of digits
         1 => decimal_pattern(0, random.choose(&[0, 0, 0, 1, -70])),
         2 => {
-            let near_form = decimal_pattern(random.from_to(-100_000_002, 100_000_002) as i32, random.from_to(-72, 35) as i16);
-            near_form | random.choose(&[0, 0, 0, 1, 256])
+            let most = ten(random.choose(&[digits, digits, digits + 1, 8])) + 2;
+            decimal_pattern(random.from_to(-most, most), random.from_to(-72, at(40) + 2)) | random.choose(&[0, 0, 0, 1, 256])
         }
         3 => random.next() << random.choose(&[0, 16]),
         // the numbers with the least exponent
-        4 => decimal_pattern(sign * random.from_to(1, 9_999_999) as i32, -70),
-        5 => decimal_pattern(sign * eight_digits(random), random.from_to(-70, -60) as i16),
-        6 => decimal_pattern(sign * eight_digits(random), random.from_to(25, 33) as i16),
-        7 => decimal_pattern(sign * eight_digits(random), random.from_to(-70, 33) as i16),
-        8 => decimal_pattern(sign * random.from_to(1, 99) as i32 * 1_000_000, random.from_to(-8, -5) as i16),
-        _ => decimal_pattern(sign * eight_digits(random), random.from_to(-17, 3) as i16),
+        4 => decimal_pattern(sign * random.from_to(1, least - 1), -70),
+        5 => full(random, -70, -60),
+        6 => full(random, at(32), at(40)),
+        7 => full(random, -70, at(40)),
+        // small whole numbers and their fractions
+        8 => decimal_pattern(sign * random.from_to(1, 99) * ten(digits - 2), random.from_to(at(-1), at(2))),
+        _ => full(random, at(-10), at(10)),
     }
 }
 
-pub fn any_pattern(format: Format, random: &mut Random) -> u64 {
-    match format {
-        Format::Binary64 => any_binary(random),
-        Format::Decimal => any_decimal(random),
+pub fn any_pattern<R: Radix>(random: &mut Random) -> u64 {
+    if R::BASE == 2 { any_binary(random) } else { any_decimal(R::DIGITS, random) }
+}
+
+fn beside_binary(random: &mut Random, a: u64) -> u64 {
+    let sign = random.below(2) << 63;
+    if random.one_in(2) {
+        return (a ^ sign).wrapping_add(random.from_to(-3, 3) as u64);
     }
+    let field = a >> 52 & 0x7ff;
+    let low = field.saturating_sub(random.from_to(50, 56) as u64);
+    sign | low << 52 | random.choose(&[0, 0, 1, 1 << 51, !0 >> 12])
+}
+
+fn beside_decimal(digits: u32, random: &mut Random, a: u64) -> u64 {
+    let (m, e) = ((a >> 32) as i32 as i64, (a >> 16) as i16 as i64);
+    if random.one_in(2) {
+        let m = m * random.choose(&[1, -1]) + random.from_to(-3, 3);
+        return decimal_pattern(m, e + random.choose(&[0, 0, 0, 1, -1]));
+    }
+    let half = 5 * ten(digits - 1);
+    let m = random.choose(&[half, -half, half / 5, half + 1, half - 1, half / 2]);
+    decimal_pattern(m, e - digits as i64 + random.from_to(-2, 2))
 }
 
 /// A second operand: any, or one beside the first or its negative, or one that is about half a unit in the last place of it.
-pub fn beside(format: Format, random: &mut Random, a: u64) -> u64 {
-    let sign = random.below(2) << 63;
-    match (random.below(4), format) {
-        (0, Format::Binary64) => (a ^ sign).wrapping_add(random.from_to(-3, 3) as u64),
-        (1, Format::Binary64) => {
-            let field = a >> 52 & 0x7ff;
-            let low = field.saturating_sub(random.from_to(50, 56) as u64);
-            sign | low << 52 | random.choose(&[0, 0, 1, 1 << 51, !0 >> 12])
-        }
-        (0, Format::Decimal) => {
-            let (m, e) = ((a >> 32) as u32 as i32, (a >> 16) as u16 as i16);
-            let m = m.wrapping_mul(random.choose(&[1, -1])).wrapping_add(random.from_to(-3, 3) as i32);
-            decimal_pattern(m, e.wrapping_add(random.choose(&[0, 0, 0, 1, -1])))
-        }
-        (1, Format::Decimal) => {
-            let e = (a >> 16) as u16 as i16;
-            let m = random.choose(&[50_000_000, -50_000_000, 10_000_000, 50_000_001, 49_999_999, 25_000_000]);
-            decimal_pattern(m, e.wrapping_sub(random.from_to(6, 10) as i16))
-        }
-        _ => any_pattern(format, random),
+pub fn beside<R: Radix>(random: &mut Random, a: u64) -> u64 {
+    match (random.one_in(2), R::BASE) {
+        (true, _) => any_pattern::<R>(random),
+        (false, 2) => beside_binary(random, a),
+        (false, _) => beside_decimal(R::DIGITS, random, a),
     }
 }
 
 /// A zero of a sheet, mostly of a scale at which many zeros stay in range.
-fn sheet_zero(format: Format, random: &mut Random, scale: i64) -> u64 {
+fn sheet_zero<R: Radix>(random: &mut Random, scale: i64) -> u64 {
     if random.one_in(40) {
-        return any_pattern(format, random);
+        return any_pattern::<R>(random);
     }
     if random.one_in(40) {
         return 0;
     }
     let negative = random.one_in(2);
-    match format {
-        Format::Binary64 => binary_pattern(negative, (1023 + scale + random.from_to(-3, 3)) as u64, fraction(random)),
-        Format::Decimal => {
-            let m = eight_digits(random);
-            decimal_pattern(if negative { -m } else { m }, (scale / 4 - 7 + random.from_to(-1, 1)) as i16)
-        }
+    if R::BASE == 2 {
+        return binary_pattern(negative, (1023 + scale + random.from_to(-3, 3)) as u64, fraction(random));
     }
+    let m = all_digits(R::DIGITS, random);
+    decimal_pattern(if negative { -m } else { m }, exponent_of_ten(R::DIGITS, scale / 4) + random.from_to(-1, 1))
 }
 
 /// A pattern some units in the last place beside that of a number.
@@ -189,7 +205,7 @@ fn beside_what(value: Number, bound: Number) -> Number {
 }
 
 /// A claim on an order and a tolerance: near the value and the bound that the order closes to, where it does.
-fn claim<R: Radix>(format: Format, random: &mut Random, bench: &Bench<R>, k: u8) -> (u64, u64) {
+fn claim<R: Radix>(random: &mut Random, bench: &Bench<R>, k: u8) -> (u64, u64) {
     match bench.ask(k) {
         Ok((value, bound)) if !random.one_in(8) => {
             if random.one_in(3)
@@ -199,26 +215,31 @@ fn claim<R: Radix>(format: Format, random: &mut Random, bench: &Bench<R>, k: u8)
             }
             let tolerance = match random.below(4) {
                 0 => 0,
-                1 => any_pattern(format, random),
+                1 => any_pattern::<R>(random),
                 _ => nudged::<R>(random, bound),
             };
             (nudged::<R>(random, value), tolerance)
         }
-        _ => (any_pattern(format, random), any_pattern(format, random)),
+        _ => (any_pattern::<R>(random), any_pattern::<R>(random)),
     }
 }
 
-/// The slips of a sheet; a bench of the plain kind tells what claims are near.
-fn slips<R: Radix>(format: Format, random: &mut Random, sheet: &mut Vec<u8>, longest: usize) {
-    let k_highest = sheet[1];
-    let mut bench = Bench::<R>::new(k_highest);
+/// The scale of the zeros of a sheet: about the exponent of 2 in them.
+fn any_scale<R: Radix>(random: &mut Random) -> i64 {
     let scale = match random.below(4) {
         0 => 0,
         1 => random.from_to(-12, 12),
         2 => random.from_to(-60, 60),
         _ => random.from_to(-120, 120) * 4,
     };
-    let scale = if R::BASE == 2 { scale } else { scale.clamp(-150, 150) };
+    if R::BASE == 2 { scale } else { scale.clamp(-150, 150) }
+}
+
+/// The slips of a sheet; a bench of the plain kind tells what claims are near.
+fn slips<R: Radix>(random: &mut Random, sheet: &mut Vec<u8>, longest: usize) {
+    let k_highest = sheet[1];
+    let mut bench = Bench::<R>::new(k_highest);
+    let scale = any_scale::<R>(random);
     let count = random.from_to(0, longest as i64);
     for _ in 0..count {
         let map = random.choose(&[1, 1, 1, 1, 1, 1, 1, 2, 2, 3, 3, 14, 14, 15]);
@@ -228,7 +249,7 @@ fn slips<R: Radix>(format: Format, random: &mut Random, sheet: &mut Vec<u8>, lon
             bench.clear();
         }
         if map & 1 != 0 {
-            let zero = sheet_zero(format, random, scale).to_be_bytes();
+            let zero = sheet_zero::<R>(random, scale).to_be_bytes();
             sheet.extend(zero);
             if let Ok(x) = R::admit(zero) {
                 let _ = bench.add(x);
@@ -239,11 +260,20 @@ fn slips<R: Radix>(format: Format, random: &mut Random, sheet: &mut Vec<u8>, lon
             let order = if random.one_in(20) { random.below(256) as u8 } else { random.from_to(0, most) as u8 };
             sheet.push(order);
             if map & 4 != 0 {
-                let (claim, tolerance) = claim::<R>(format, random, &bench, order);
+                let (claim, tolerance) = claim::<R>(random, &bench, order);
                 sheet.extend(claim.to_be_bytes());
                 sheet.extend(tolerance.to_be_bytes());
             }
         }
+    }
+}
+
+/// Spoils a byte of a header: the number of the format, or the highest order.
+fn damage_header(random: &mut Random, sheet: &mut [u8]) {
+    if random.one_in(2) {
+        sheet[0] = random.choose(&[0, 1, 2, 3, 4, 5, 6, 7, 8, 9, 255]);
+    } else {
+        sheet[1] = random.choose(&[0, 1, 2, 3, 64, 65, 255]);
     }
 }
 
@@ -257,7 +287,7 @@ fn damage(random: &mut Random, sheet: &mut Vec<u8>) {
             2 if at < sheet.len() => sheet[at] ^= 1 << random.below(8),
             3 => sheet.insert(at, random.next() as u8),
             4 if at < sheet.len() => drop(sheet.remove(at)),
-            5 if sheet.len() > 1 => sheet[random.below(2) as usize] = random.choose(&[0, 1, 2, 3, 64, 65, 255]),
+            5 if sheet.len() > 1 => damage_header(random, sheet),
             6 if random.one_in(20) => sheet.resize(random.from_to(32766, 32770) as usize, random.choose(&[0, 0, 255])),
             7 => sheet.extend((0..random.below(20)).map(|_| random.next() as u8).collect::<Vec<_>>()),
             _ => {}
@@ -270,14 +300,11 @@ pub fn any_sheet(random: &mut Random, longest: usize) -> Vec<u8> {
     if random.one_in(50) {
         return (0..random.below(60)).map(|_| random.next() as u8).collect();
     }
-    let format = random.choose(&[Format::Binary64, Format::Decimal]);
+    let format = random.choose(&FORMATS);
     let k = random.choose(&[1, 2, 3, 5, 8, 64]);
     let k = if random.one_in(3) { random.from_to(1, 64) as u8 } else { k };
-    let mut sheet = vec![format as u8, k];
-    match format {
-        Format::Binary64 => slips::<Binary64>(format, random, &mut sheet, longest),
-        Format::Decimal => slips::<Decimal>(format, random, &mut sheet, longest),
-    }
+    let mut sheet = vec![format.number(), k];
+    in_format!(format, R => slips::<R>(random, &mut sheet, longest));
     if random.one_in(3) {
         damage(random, &mut sheet);
     }

@@ -1,7 +1,8 @@
 //! The report of a sheet, by its definition.
 
 use crate::bench::{Bench, Refusal, Verdict};
-use crate::radix::{Binary64, Decimal, Number, Radix};
+use crate::proved::{Format, in_format};
+use crate::radix::{Number, Radix};
 use std::fmt::Write;
 
 /// A fault: its number, slip and byte, and the cause of a pattern that is no number.
@@ -37,13 +38,13 @@ pub fn report(sheet: &[u8]) -> String {
     if !(2..=32768).contains(&sheet.len()) {
         return fault(13, 0);
     }
-    if !(1..=2).contains(&sheet[0]) {
+    let Some(format) = Format::of_number(sheet[0]) else {
         return fault(14, 0);
-    }
+    };
     if !(1..=64).contains(&sheet[1]) {
         return fault(15, 1);
     }
-    if sheet[0] == 1 { report_slips::<Binary64>(sheet) } else { report_slips::<Decimal>(sheet) }
+    in_format!(format, R => report_slips::<R>(sheet))
 }
 
 fn report_slips<R: Radix>(sheet: &[u8]) -> String {

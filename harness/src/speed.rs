@@ -1,10 +1,11 @@
 //! How long cards and sheets take, in the proved library and in other forms. Every form is timed in turn, so many rounds of it, and the
 //! shortest time of each counts: what else runs on the machine only makes times longer.
 
+use crate::bench::Bench;
 use crate::passes;
-use crate::proved::{self, Format, Operation};
-use crate::radix::{Decimal, Number, Radix};
-use crate::random::Random;
+use crate::proved::{self, Format, Operation, in_format};
+use crate::radix::Radix;
+use crate::random::{Random, decimal_pattern, exponent_of_ten, ten};
 use std::hint::black_box;
 use std::io::Write;
 use std::process::{Command, Stdio};
@@ -98,9 +99,19 @@ fn shortest(repetitions: usize, times: usize, calls: &mut [Box<dyn FnMut(usize) 
 
 const SIZES: [usize; 3] = [10, 30, 64];
 
-/// Zeros from -1 to 1, with all their bits random.
-fn binary_zeros(random: &mut Random, n: usize) -> Vec<f64> {
-    (0..n).map(|_| (random.next() >> 11) as f64 / (1u64 << 52) as f64 - 1.0).collect()
+/// The head of a table that has a column for each size.
+fn print_sizes() {
+    println!("{:52} {:>19} {:>19} {:>19}", "", "n = 10", "n = 30", "n = 64");
+}
+
+/// A zero from -1 to 1, with all its bits random.
+fn binary_zero(random: &mut Random) -> f64 {
+    (random.next() >> 11) as f64 / (1u64 << 52) as f64 - 1.0
+}
+
+fn binary_card(seed: u64, n: usize) -> Vec<f64> {
+    let mut random = Random(seed ^ n as u64);
+    (0..n).map(|_| binary_zero(&mut random)).collect()
 }
 
 /// Whether the answers are as the proved library's: bit for bit, or else the values up to 10^-9 of the largest.
@@ -123,8 +134,7 @@ fn measure_binary(seed: u64, repetitions: usize) {
     let mut table = vec![vec![]; forms.len()];
     let mut alone = vec![];
     for n in SIZES {
-        let mut random = Random(seed ^ n as u64);
-        let zeros = binary_zeros(&mut random, n);
+        let zeros = binary_card(seed, n);
         let patterns: Vec<u64> = zeros.iter().map(|x| x.to_bits()).collect();
         let mut expected = vec![[0.0; 2]; n + 1];
         proved_card(Format::Binary64, &zeros, 1, &mut expected);
@@ -146,7 +156,7 @@ fn measure_binary(seed: u64, repetitions: usize) {
         }
     }
     println!("\nBinary64, a card of n zeros and all orders: microseconds, and the proved bench's time as a multiple of it");
-    println!("{:52} {:>19} {:>19} {:>19}", "", "n = 10", "n = 30", "n = 64");
+    print_sizes();
     for (form, times) in forms.iter().zip(&table) {
         let cells: Vec<_> = times.iter().zip(&table[0]).map(|(time, own)| format!("{:>11.2} {:>7.2}", time / 1000.0, own / time)).collect();
         println!("{:52} {}", form.name, cells.join(" "));
@@ -155,20 +165,10 @@ fn measure_binary(seed: u64, repetitions: usize) {
     println!("{:52} {}", "proved bench, the additions alone", cells.join(" "));
 }
 
-/// Zeros of eight digits, from -10 to 10, as numbers of the plain implementation.
-fn decimal_zeros(random: &mut Random, n: usize) -> Vec<Number> {
-    let zero = |random: &mut Random| {
-        let m = random.from_to(10_000_000, 99_999_999) as i32 * random.choose(&[1, -1]);
-        let mut bytes = [0; 8];
-        bytes[..4].copy_from_slice(&m.to_be_bytes());
-        bytes[4..6].copy_from_slice(&(random.choose(&[-7i16, -8])).to_be_bytes());
-        Decimal::admit(bytes).unwrap()
-    };
-    (0..n).map(|_| zero(random)).collect()
-}
-
-fn decimal_bits(a: Number) -> u64 {
-    u64::from_be_bytes(Decimal::pattern(a))
+/// A zero of so many digits, from -10 to 10.
+fn decimal_zero(digits: u32, random: &mut Random) -> u64 {
+    let m = random.from_to(ten(digits - 1), ten(digits) - 1) * random.choose(&[1, -1]);
+    decimal_pattern(m, exponent_of_ten(digits, random.choose(&[0, -1])))
 }
 
 /// M and e of a pattern, as Python's decimal module reads them.
@@ -176,18 +176,31 @@ fn decimal_text(bits: u64) -> String {
     format!("{}E{}", (bits >> 32) as u32 as i32, (bits >> 16) as u16 as i16)
 }
 
-fn decimal_card(seed: u64, n: usize) -> Vec<u64> {
+fn decimal_card(seed: u64, digits: u32, n: usize) -> Vec<u64> {
     let mut random = Random(seed ^ (n as u64) << 8);
-    decimal_zeros(&mut random, n).into_iter().map(decimal_bits).collect()
+    (0..n).map(|_| decimal_zero(digits, &mut random)).collect()
 }
 
-/// Each card as a line of its zeros, then a line of the value and the bound of each order, as the proved library has them.
+fn any_card<R: Radix>(seed: u64, n: usize) -> Vec<u64> {
+    if R::BASE == 2 {
+        binary_card(seed, n).into_iter().map(f64::to_bits).collect()
+    } else {
+        decimal_card(seed, R::DIGITS, n)
+    }
+}
+
+/// A zero of a format, as in its cards.
+fn any_zero<R: Radix>(random: &mut Random) -> u64 {
+    if R::BASE == 2 { binary_zero(random).to_bits() } else { decimal_zero(R::DIGITS, random) }
+}
+
+/// Each card of eight digits as a line of its zeros, then a line of the value and the bound of each order, as the proved library has them.
 fn decimal_cards(seed: u64) -> String {
     let mut text = String::new();
     for n in SIZES {
-        let zeros = decimal_card(seed, n);
+        let zeros = decimal_card(seed, 8, n);
         let mut answers = vec![[0; 2]; n + 1];
-        proved::card(Format::Decimal, &zeros, &mut answers);
+        proved::card(Format::Decimal8, &zeros, &mut answers);
         let zeros: Vec<_> = zeros.into_iter().map(decimal_text).collect();
         let answers: Vec<_> = answers.into_iter().flatten().map(decimal_text).collect();
         text += &format!("{}\n{}\n", zeros.join(" "), answers.join(" "));
@@ -196,11 +209,8 @@ fn decimal_cards(seed: u64) -> String {
 }
 
 /// One card so many times and nothing else, for a profiler.
-pub fn work_card(seed: u64, format: u8, n: usize, times: usize) {
-    let (format, zeros) = match format {
-        1 => (Format::Binary64, binary_zeros(&mut Random(seed ^ n as u64), n).into_iter().map(f64::to_bits).collect()),
-        _ => (Format::Decimal, decimal_card(seed, n)),
-    };
+pub fn work_card(seed: u64, format: Format, n: usize, times: usize) {
+    let zeros = in_format!(format, R => any_card::<R>(seed, n));
     let mut answers = vec![[0; 2]; n + 1];
     let start = Instant::now();
     proved::cards(format, black_box(&zeros), times, black_box(&mut answers));
@@ -240,15 +250,15 @@ fn measure_decimal(seed: u64, repetitions: usize) {
     let others = python_times(seed);
     let mut own = vec![];
     for n in SIZES {
-        let zeros = decimal_card(seed, n);
+        let zeros = decimal_card(seed, 8, n);
         let mut answers = vec![[0; 2]; n + 1];
         let mut calls: Vec<Box<dyn FnMut(usize)>> = vec![Box::new(|times| {
-            proved::cards(Format::Decimal, black_box(&zeros), times, black_box(&mut answers));
+            proved::cards(Format::Decimal8, black_box(&zeros), times, black_box(&mut answers));
         })];
         own.push(shortest(repetitions, 4_000 / (n * n) + 1, &mut calls)[0] / 1000.0);
     }
     println!("\nDecimal, a card of n zeros and all orders: microseconds, and as a multiple of the proved bench's time");
-    println!("{:52} {:>19} {:>19} {:>19}", "", "n = 10", "n = 30", "n = 64");
+    print_sizes();
     let print = |name: &str, times: &[f64]| {
         let cells: Vec<_> = times.iter().zip(&own).map(|(time, own)| format!("{time:>11.1} {:>7.1}", time / own)).collect();
         println!("{name:52} {}", cells.join(" "));
@@ -261,17 +271,52 @@ fn measure_decimal(seed: u64, repetitions: usize) {
     println!("{:52} {}", "proved bench, nanoseconds for an operation", each.join(" "));
 }
 
+/// The values and bounds of a card, of which nothing is refused, by the plain implementation.
+fn plain_card<R: Radix>(zeros: &[u64]) -> Vec<[u64; 2]> {
+    let mut bench = Bench::<R>::new(zeros.len() as u8);
+    for zero in zeros {
+        bench.add(R::admit(zero.to_be_bytes()).unwrap()).unwrap();
+    }
+    let bits = |a| u64::from_be_bytes(R::pattern(a));
+    let asked = |k| bench.ask(k).map(|(value, bound)| [bits(value), bits(bound)]).unwrap();
+    (0..=zeros.len() as u8).map(asked).collect()
+}
+
+/// The shortest time of a card of n zeros in each of some formats, in turn.
+fn time_cards(seed: u64, repetitions: usize, formats: &[Format], n: usize) -> Vec<f64> {
+    let mut calls: Vec<Box<dyn FnMut(usize)>> = vec![];
+    for &format in formats {
+        let zeros = in_format!(format, R => any_card::<R>(seed, n));
+        let mut answers = vec![[0; 2]; n + 1];
+        proved::card(format, &zeros, &mut answers);
+        assert_eq!(answers, in_format!(format, R => plain_card::<R>(&zeros)), "a card in {format:?} differs");
+        calls.push(Box::new(move |times| proved::cards(format, black_box(&zeros), times, black_box(&mut answers))));
+    }
+    shortest(repetitions, 4_000 / (n * n) + 1, &mut calls)
+}
+
+fn measure_digits(seed: u64, repetitions: usize) {
+    let formats = [Format::Decimal8, Format::Decimal7, Format::Decimal6, Format::Decimal5, Format::Decimal4];
+    let columns = SIZES.map(|n| time_cards(seed, repetitions, &formats, n));
+    println!("\nDecimal of d digits, a card of n zeros and all orders: microseconds");
+    print_sizes();
+    for (row, &format) in formats.iter().enumerate() {
+        let cells = columns.each_ref().map(|times| format!("{:>11.1}        ", times[row] / 1000.0));
+        println!("{:52} {}", format!("proved bench, {} digits", in_format!(format, R => R::DIGITS)), cells.join(" "));
+    }
+}
+
+/// The formats of which operations and sheets are measured, by their names in the tables.
+const MEASURED: [(&str, Format); 3] = [("Binary64", Format::Binary64), ("Decimal", Format::Decimal8), ("Decimal4", Format::Decimal4)];
+
 /// One operation through `coef_operate`, which admits two patterns and writes two.
 fn measure_operations(seed: u64, repetitions: usize) {
     println!("\nOne operation on patterns, with admission of its operands and the patterns of its answer: nanoseconds");
     let operations = [Operation::SumSplit, Operation::ProductSplit, Operation::Lift, Operation::Admission, Operation::Comparison];
-    for format in [Format::Binary64, Format::Decimal] {
+    for (name, format) in MEASURED {
         let mut random = Random(seed);
-        let operand = |random: &mut Random| match format {
-            Format::Binary64 => binary_zeros(random, 1)[0].to_bits(),
-            Format::Decimal => decimal_bits(decimal_zeros(random, 1)[0]),
-        };
-        let pairs: Vec<(u64, u64)> = (0..1000).map(|_| (operand(&mut random), operand(&mut random))).collect();
+        let mut operand = || in_format!(format, R => any_zero::<R>(&mut random));
+        let pairs: Vec<(u64, u64)> = (0..1000).map(|_| (operand(), operand())).collect();
         let cells: Vec<_> = operations
             .iter()
             .map(|&operation| {
@@ -286,17 +331,14 @@ fn measure_operations(seed: u64, repetitions: usize) {
                 format!("{operation:?} {:.1}", shortest(repetitions, 10, &mut calls)[0] / 1000.0)
             })
             .collect();
-        println!("{format:?}: {}", cells.join(", "));
+        println!("{name}: {}", cells.join(", "));
     }
 }
 
 /// The longest sheets: slips of one kind, after so many zeros.
 fn long_sheet(format: Format, random: &mut Random, k: u8, zeros: usize, slip: fn(&mut dyn FnMut() -> u64) -> Vec<u8>) -> Vec<u8> {
-    let mut number = || match format {
-        Format::Binary64 => binary_zeros(random, 1)[0].to_bits(),
-        Format::Decimal => decimal_bits(decimal_zeros(random, 1)[0]),
-    };
-    let mut sheet = vec![format as u8, k];
+    let mut number = || in_format!(format, R => any_zero::<R>(random));
+    let mut sheet = vec![format.number(), k];
     for _ in 0..zeros {
         sheet.push(1);
         sheet.extend(number().to_be_bytes());
@@ -340,7 +382,7 @@ fn measure_sheets(seed: u64, repetitions: usize) {
         ("clears", 0, |_| vec![0]),
     ];
     println!("\nA sheet of 32,768 bytes with the highest order 64: milliseconds, and bytes of its report");
-    for format in [Format::Binary64, Format::Decimal] {
+    for (format_name, format) in MEASURED {
         for (name, zeros, slip) in kinds {
             let mut random = Random(seed);
             let sheet = long_sheet(format, &mut random, 64, zeros, slip);
@@ -355,7 +397,7 @@ fn measure_sheets(seed: u64, repetitions: usize) {
                 }
             })];
             let best = shortest(repetitions.min(100), 1, &mut calls)[0];
-            println!("{:9} {name:66} {:>9.3} {length:>8}", format!("{format:?}"), best / 1e6);
+            println!("{format_name:9} {name:66} {:>9.3} {length:>8}", best / 1e6);
         }
     }
 }
@@ -364,6 +406,7 @@ pub fn measure(seed: u64, repetitions: usize) {
     println!("seed {seed}, the shortest of {repetitions} repetitions of each, in turn");
     measure_binary(seed, repetitions);
     measure_decimal(seed, repetitions);
+    measure_digits(seed, repetitions);
     measure_operations(seed, repetitions);
     measure_sheets(seed, repetitions);
 }
