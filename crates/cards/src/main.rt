@@ -1,8 +1,9 @@
 // Works whole cards through benches, and compares each answer with that of an outside library, read from standard input.
 //
-// A line `card binary64 3` or `card decimal 3` opens a card of highest order 3. Its lines are `add X = Z 1`, with the number of the zero;
-// `ask 2 = K 2 V B`, with the value and the bound; `mark 1 C T = M 1 right`, `wrong` or `open`, with a claim and a tolerance. A refused call has `R`, the number of the
-// refusal and its details. Lines that begin with `#` are comments.
+// A line `card binary64 3` or `card decimal8 3` opens a card of highest order 3, in binary64 or in decimal with eight digits (`decimal4` to
+// `decimal7` are those of fewer). Its lines are `add X = Z 1`, with the number of the zero; `ask 2 = K 2 V B`, with the value and the bound;
+// `mark 1 C T = M 1 right`, `wrong` or `open`, with a claim and a tolerance. A refused call has `R`, the number of the refusal and its details.
+// Lines that begin with `#` are comments.
 #![tactic(auto)]
 
 ghost use Rattle.std.specs.Prelude.{◌≡◌, ◌<◌, ◌==◌, ◌↔◌, IsTrue, IfOk};
