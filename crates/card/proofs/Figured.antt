@@ -1,5 +1,5 @@
 -- The worked figures, by computation.
-use Rattle.std.proofs.Common.{◌≡◌, ℕ, ◌≤◌, List, ℤ, pos, refl}
+use Rattle.std.proofs.Common.{◌≡◌, ℕ, ◌≤◌, pos, refl}
 use Rattle.rounding.specs.Radix.{nearest, exponent, rounded, rounding}
 use Rattle.arithmetic.specs.Operations.{sum, product, lift, grain, product_error, sum_split, product_split}
 use Rattle.binary64.specs.Limits.{least, reach}
