@@ -56,20 +56,22 @@ add 4000000000000000 = Z 3
 
 
 def known_figures(arith):
-    """Cards with known figures: the highest order and the zeros."""
+    """Cards with known figures: the highest order, the zeros, and claims on orders with their tolerances."""
     if arith.name == "binary64":
         return [
-            (3, [1, 2, 3]),
-            (2, [Fraction(1, 2**450)] * 2),
-            (2, [Fraction(1, 2**460)] * 2),
-            (1, [2**900] * 2),
+            (3, [1, 2, 3], []),
+            (2, [Fraction(1, 2**450)] * 2, []),
+            (2, [Fraction(1, 2**460)] * 2, []),
+            (1, [2**900] * 2, []),
         ]
     after_one = 1 + Fraction(1, arith.unit)
     large = 1000 * arith.unit  # its last place is 1,000, so that adding 45 leaves it unchanged
+    claims = [(1, "-15.92", 0), (1, "-15.92", "0.01"), (1, "-15.93", 0)]
     return [
-        (3, [1, 2, 3]),
-        (2, [after_one] * 2),
-        (1, [large, 45, 45, -large, Fraction("1.2345678"[:arith.d + 1])]),
+        (3, [1, 2, 3], []),
+        (2, [after_one] * 2, []),
+        (1, [large, 45, 45, -large, Fraction("1.2345678"[:arith.d + 1])], []),
+        (3, ["1.234", "5.678", "9.012"], claims),
     ]
 
 
@@ -295,12 +297,16 @@ class Dealer:
             lines += [self.added(bench, self.pattern(self.number(-2, 2))), self.asked(bench, self.order(bench))]
         return lines
 
-    def figures(self, highest, zeros):
-        """A card of which every order is asked."""
+    def figures(self, highest, zeros, claims):
+        """A card of which every order is asked, and then the claims are marked."""
         bench = Bench(self.arith, highest)
         lines = [f"card {self.arith.name} {highest}"]
         lines += [self.added(bench, self.arith.pattern(Fraction(zero))) for zero in zeros]
-        return lines + [self.asked(bench, k) for k in range(highest + 1)]
+        lines += [self.asked(bench, k) for k in range(highest + 1)]
+        for k, *numbers in claims:
+            claim, tolerance = (self.arith.pattern(Fraction(x)) for x in numbers)
+            lines.append(f"mark {k} {claim} {tolerance} = {marked_line(bench, k, claim, tolerance)}")
+        return lines
 
     def full(self):
         """64 zeros, and one more that is refused."""
@@ -314,8 +320,8 @@ class Dealer:
     def text(self, count):
         """So many dealt cards, after those with known figures and a full one."""
         lines = [heading(self.arith, "whole cards by tools/cards.py", self.seed)]
-        for highest, zeros in known_figures(self.arith):
-            lines += self.figures(highest, zeros)
+        for figures in known_figures(self.arith):
+            lines += self.figures(*figures)
         lines += self.full()
         for _ in range(count):
             lines += self.card()

@@ -326,12 +326,12 @@ def minus_zero(files):
     files.case("decimal8: a sign without digits is in no form", bytes.fromhex("020201" + zero))
 
 
-def short_display(files):
+def four_digits(files):
     """The sheet in four digits that docs/SHEET.md tells byte by byte; and its slips under other first bytes."""
     w = Writer(ARITHMETIC[4])
     one, two, three, claim = (Fraction(size) for size in ("1.234", "5.678", "9.012", "-15.92"))
     sheet = w.sheet(3, w.add(one), w.add(two), w.add_ask(three, 1), w.mark(1, claim, Fraction(1, 100)))
-    files.case("decimal4: the zeros 1.234, 5.678 and 9.012, of which the display cannot show the sum", sheet)
+    files.case("decimal4: the zeros 1.234, 5.678 and 9.012, whose sum four digits do not hold", sheet)
     files.case("14: the same with the first byte 8", b"\x08" + sheet[1:])
     files.case("decimal5: the same with the first byte 5: 17, since four digits are not the one form of a number of five", b"\x05" + sheet[1:])
 
@@ -409,7 +409,7 @@ def main():
         lines_of_slips(w, files)
         faults(w, files)
     minus_zero(files)
-    short_display(files)
+    four_digits(files)
     last_maps(files)
     for number in (1, 2, 4):  # binary64, and decimal with most and with fewest digits
         long_sheets(Writer(ARITHMETIC[number]), files)

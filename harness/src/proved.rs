@@ -68,7 +68,7 @@ pub enum Operation {
 }
 
 /// What an operation answers: outcome 0 with its patterns, 1 to 3 an operand that is no number with its cause, 4 refused, 5 a number that
-/// names no format.
+/// names no format or no operation, or a lift by more than 192.
 #[repr(C)]
 #[derive(Clone, Copy, PartialEq, Eq, Debug)]
 pub struct Answer {

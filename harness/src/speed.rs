@@ -257,7 +257,7 @@ fn measure_decimal(seed: u64, repetitions: usize) {
         })];
         own.push(shortest(repetitions, 4_000 / (n * n) + 1, &mut calls)[0] / 1000.0);
     }
-    println!("\nDecimal, a card of n zeros and all orders: microseconds, and as a multiple of the proved bench's time");
+    println!("\nDecimal with eight digits, a card of n zeros and all orders: microseconds, and as a multiple of the proved bench's time");
     print_sizes();
     let print = |name: &str, times: &[f64]| {
         let cells: Vec<_> = times.iter().zip(&own).map(|(time, own)| format!("{time:>11.1} {:>7.1}", time / own)).collect();
@@ -306,14 +306,14 @@ fn measure_digits(seed: u64, repetitions: usize) {
     }
 }
 
-/// The formats of which operations and sheets are measured, by their names in the tables.
-const MEASURED: [(&str, Format); 3] = [("Binary64", Format::Binary64), ("Decimal", Format::Decimal8), ("Decimal4", Format::Decimal4)];
+/// The formats of which operations and sheets are measured.
+const MEASURED: [Format; 3] = [Format::Binary64, Format::Decimal8, Format::Decimal4];
 
 /// One operation through `coef_operate`, which admits two patterns and writes two.
 fn measure_operations(seed: u64, repetitions: usize) {
     println!("\nOne operation on patterns, with admission of its operands and the patterns of its answer: nanoseconds");
     let operations = [Operation::SumSplit, Operation::ProductSplit, Operation::Lift, Operation::Admission, Operation::Comparison];
-    for (name, format) in MEASURED {
+    for format in MEASURED {
         let mut random = Random(seed);
         let mut operand = || in_format!(format, R => any_zero::<R>(&mut random));
         let pairs: Vec<(u64, u64)> = (0..1000).map(|_| (operand(), operand())).collect();
@@ -331,7 +331,7 @@ fn measure_operations(seed: u64, repetitions: usize) {
                 format!("{operation:?} {:.1}", shortest(repetitions, 10, &mut calls)[0] / 1000.0)
             })
             .collect();
-        println!("{name}: {}", cells.join(", "));
+        println!("{format:?}: {}", cells.join(", "));
     }
 }
 
@@ -382,7 +382,7 @@ fn measure_sheets(seed: u64, repetitions: usize) {
         ("clears", 0, |_| vec![0]),
     ];
     println!("\nA sheet of 32,768 bytes with the highest order 64: milliseconds, and bytes of its report");
-    for (format_name, format) in MEASURED {
+    for format in MEASURED {
         for (name, zeros, slip) in kinds {
             let mut random = Random(seed);
             let sheet = long_sheet(format, &mut random, 64, zeros, slip);
@@ -397,7 +397,7 @@ fn measure_sheets(seed: u64, repetitions: usize) {
                 }
             })];
             let best = shortest(repetitions.min(100), 1, &mut calls)[0];
-            println!("{format_name:9} {name:66} {:>9.3} {length:>8}", best / 1e6);
+            println!("{:9} {name:66} {:>9.3} {length:>8}", format!("{format:?}"), best / 1e6);
         }
     }
 }

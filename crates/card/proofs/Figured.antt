@@ -10,15 +10,15 @@ use Rattle.coefficients.specs.Calls.{step}
 use Rattle.scientific.specs.Forms.{lowest, highest}
 use Rattle.scientific.specs.Patterns.{meaning as decimal, one_form, admission as decimal_admission, reads, zeros, written as decimal_written, admitted as decimal_admitted, pattern as decimal_pattern}
 use Rattle.scientific.proofs.Precisions.{each_precision}
-use Rattle.card.specs.Figures.{places, holding, asks, adds, marks, Binary64Figures, OneTwoThree, DecimalFigures, FourDigitFigures, Figures}
+use Rattle.card.specs.Figures.{places, holding, asks, adds, marks, Binary64Figures, OneTwoThree, EightDigitFigures, FourDigitFigures, Figures}
 
 binary64_figures : Binary64Figures
 unfolding nearest exponent rounded rounding sum product lift grain product_error sum_split product_split least reach significand size admission unsigned written admitted pattern meaning new_cell row_after closed verdict step holding asks adds marks
 binary64_figures = record { no_zeros = refl; card = refl; minus_six = refl; above_zeros = refl; claim_right = refl; claim_wrong = refl; claim_open = refl; below_zero = refl; smallest = refl; too_small = refl; too_large = refl }
 
-decimal_figures : DecimalFigures (decimal 8)
+eight_digit_figures : EightDigitFigures (decimal 8)
 unfolding decimal lowest highest nearest exponent rounded rounding sum product lift grain product_error sum_split product_split new_cell row_after closed verdict step holding asks adds marks
-decimal_figures = record {
+eight_digit_figures = record {
   square = refl;
   claim_open = refl;
   claim_right = refl;
@@ -26,7 +26,7 @@ decimal_figures = record {
   cancelled = refl;
   split_up = refl;
   split_exact = refl;
-  long_display = refl;
+  order_1 = refl;
 }
 
 one_two_three : (d : ℕ) → 4 ≤ d → d ≤ 8 → OneTwoThree (decimal d)
@@ -42,4 +42,4 @@ unfolding lowest highest one_form decimal_admission reads zeros decimal_written 
 other_digits = refl
 
 pub figures : Figures
-figures = record { of_binary64 = binary64_figures; of_each_decimal = one_two_three; of_eight_digits = decimal_figures; of_four_digits = four_digit_figures; other_digits = other_digits }
+figures = record { of_binary64 = binary64_figures; of_each_decimal = one_two_three; of_eight_digits = eight_digit_figures; of_four_digits = four_digit_figures; other_digits = other_digits }

@@ -82,7 +82,7 @@ OneTwoThree m =
     ≡ asked (whole m 1) (pos 0) ∷ added 1 ∷ added 2 ∷ added 3 ∷ asked (whole m 1) (pos 0) ∷ asked (neg_ℤ (whole m 6)) (pos 0) ∷ asked (whole m 11) (pos 0) ∷ asked (neg_ℤ (whole m 6)) (pos 0) ∷ []
 
 -- with eight digits
-pub record DecimalFigures (m : Meaning) : Type 0 where
+pub record EightDigitFigures (m : Meaning) : Type 0 where
   -- 1.0000001 twice: order 2 is 1.0000002 with the bound 1.0000002 · 10^−14
   pub square : asks m 2 (places 10000001 7 ∷ places 10000001 7 ∷ []) 2 ≡ asked (places 10000002 7) (places 10000002 21)
   -- then the claim 1.0000002 is open with the tolerance 0 and right with 2 · 10^−14; the claim 1.0000003 is wrong with 0
@@ -95,13 +95,13 @@ pub record DecimalFigures (m : Meaning) : Type 0 where
   pub split_up : sum_split m (whole m 99999999) (places 5 1) ≡ some (record { main = whole m (10 ^ 8); error = neg_ℤ (places 5 1) })
   pub split_exact : sum_split m (whole m 10000000) (places 5 1) ≡ some (record { main = whole m 10000000; error = places 5 1 })
   -- the zeros 1.234, 5.678, 9.012: order 1 is −15.924 with the bound 0
-  pub long_display : asks m 3 (places 1234 3 ∷ places 5678 3 ∷ places 9012 3 ∷ []) 1 ≡ asked (neg_ℤ (places 15924 3)) (pos 0)
+  pub order_1 : asks m 3 (places 1234 3 ∷ places 5678 3 ∷ places 9012 3 ∷ []) 1 ≡ asked (neg_ℤ (places 15924 3)) (pos 0)
 
--- with four digits, what a short display does to a value and its bound
+-- with four digits: what fewer digits do to a value and its bound
 pub record FourDigitFigures (m : Meaning) : Type 0 where
   -- 1.001 twice: order 2 is 1.002 with the bound 1.002 · 10^−6
   pub square : asks m 2 (places 1001 3 ∷ places 1001 3 ∷ []) 2 ≡ asked (places 1002 3) (places 1002 9)
-  -- the zeros 1.234, 5.678, 9.012: the coefficients −15.924, 69.297596 and −63.143947824 do not fit the display
+  -- the zeros 1.234, 5.678, 9.012: four digits do not hold the coefficients −15.924, 69.297596 and −63.143947824
   pub order_1 : asks m 3 (places 1234 3 ∷ places 5678 3 ∷ places 9012 3 ∷ []) 1 ≡ asked (neg_ℤ (places 1592 2)) (places 4012 6)
   pub order_2 : asks m 3 (places 1234 3 ∷ places 5678 3 ∷ places 9012 3 ∷ []) 2 ≡ asked (places 6930 2) (places 2411 6)
   pub order_3 : asks m 3 (places 1234 3 ∷ places 5678 3 ∷ places 9012 3 ∷ []) 3 ≡ asked (neg_ℤ (places 6314 2)) (places 3964 6)
@@ -113,7 +113,7 @@ pub record FourDigitFigures (m : Meaning) : Type 0 where
 pub record Figures : Type 0 where
   pub of_binary64 : Binary64Figures
   pub of_each_decimal : (d : ℕ) → 4 ≤ d → d ≤ 8 → OneTwoThree (decimal d)
-  pub of_eight_digits : DecimalFigures (decimal 8)
+  pub of_eight_digits : EightDigitFigures (decimal 8)
   pub of_four_digits : FourDigitFigures (decimal 4)
   -- 1.0000002 as a cell keeps it with eight digits reads as 0 with four
   pub other_digits : reads 4 (written 8 (places 10000002 7)) ≡ pos 0

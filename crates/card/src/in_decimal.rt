@@ -22,8 +22,8 @@ fn examine(order: u8, claim: (i32, i16), tolerance: (i32, i16)) -> Call {
     }
 }
 
-// With eight digits the zeros 1, 2 and 3, for a bench of highest order 3. Binary64 answers the same coefficients with bounds of 0, so both bounds together
-// leave no room for a difference.
+// With eight digits the zeros 1, 2 and 3, for a bench of highest order 3. Binary64 answers the same coefficients with bounds of 0, so both
+// bounds together leave no room for a difference.
 pub fn one_two_three() -> [Call; 7] {
     [
         add((10_000_000, -7)),
@@ -62,9 +62,9 @@ pub fn cancelled() -> [Call; 6] {
     ]
 }
 
-// With four digits the zeros 1.234, 5.678 and 9.012, for a bench of highest order 3. Order 1 is -15.924, of which the display shows -15.92;
-// the bound says what is lost. Then claims on it.
-pub fn short_display() -> [Call; 9] {
+// With four digits the zeros 1.234, 5.678 and 9.012, for a bench of highest order 3, and claims on the coefficient of order 1. That is -15.924,
+// of which four digits hold -15.92; the bound says what is lost.
+pub fn four_digits() -> [Call; 9] {
     [
         add((1_234, -3)),
         add((5_678, -3)),
@@ -81,7 +81,7 @@ pub fn short_display() -> [Call; 9] {
 }
 
 // With eight digits the same zeros, for a bench of highest order 3, and order 1.
-pub fn long_display() -> [Call; 4] {
+pub fn eight_digits() -> [Call; 4] {
     [
         add((12_340_000, -7)),
         add((56_780_000, -7)),

@@ -113,7 +113,7 @@ fn check_card(rt: &HostRuntime, tallies: &mut Tallies, card: &str) -> anyhow::Re
     };
     let score = match format {
         Format::Binary64 => work_card(rt, &mut Binary64, k, text)?,
-        Format::Decimal(precision) => work_card(rt, &mut Decimal { precision }, k, text)?,
+        Format::Decimal(precision) => work_card(rt, &mut Decimal::from(precision), k, text)?,
     };
     tallies.note(format, score);
     Ok(())

@@ -69,6 +69,6 @@ impl Tallies {
 impl fmt::Display for Tallies {
     fn fmt<W: fmt::Write>(&self, f: &mut fmt::Formatter<W>) -> fmt::Result {
         writeln!(f, "{}\n{}", Format::Binary64, self.binary64)?;
-        write!(f, "decimal\n{}", self.decimal)
+        write!(f, "decimal with any count of digits\n{}", self.decimal)
     }
 }

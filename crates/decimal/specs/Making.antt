@@ -5,21 +5,21 @@ use Rattle.decimal.specs.declared.Decimal.{Decimal}
 use Rattle.decimal.specs.declared.refusal.Refusal.{Refusal}
 use Rattle.decimal.specs.declared.refusal.Refusal.TheVariants.{Digits}
 
--- what a making answers
-pub data Making : Type 0 where
+-- what the making answers
+pub data MakingAnswer : Type 0 where
   -- decimal with so many digits
-  made : ℕ → Making
+  made : ℕ → MakingAnswer
   -- by the question with this number
-  refused : ℕ → Making
+  refused : ℕ → MakingAnswer
 
 -- 20: is d from four to eight?
-abbrev pub making : ℕ → Making
-making d = cond (is_precision d) (made d) (refused 20)
+abbrev pub making_answer : ℕ → MakingAnswer
+making_answer d = cond (is_precision d) (made d) (refused 20)
 
 -- ---- what the code answers
 abbrev pub refusal_number : Refusal → ℕ
 refusal_number Digits = 20
 
-abbrev pub told_making : Result Decimal Refusal → Making
+abbrev pub told_making : Result Decimal Refusal → MakingAnswer
 told_making (Ok a) = made a.precision.digits
 told_making (Err r) = refused (refusal_number r)

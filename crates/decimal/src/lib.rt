@@ -6,7 +6,7 @@ ghost use Rattle.scientific.specs.Patterns.{setting as setting_of};
 ghost use Rattle.scientific.specs.Numbers.{units};
 ghost use Rattle.scientific.proofs.TheRules;
 ghost use Rattle.scientific.proofs.PlainValues;
-ghost use Rattle.decimal.specs.Making.{making, told_making};
+ghost use Rattle.decimal.specs.Making.{making_answer, told_making};
 
 use arithmetic::Arithmetic;
 use arithmetic::cause::Cause;
@@ -21,16 +21,25 @@ pub mod refusal;
 // Decimal with as many digits as its precision says.
 #[derive(Clone, Copy)]
 pub struct Decimal {
-    pub precision: Precision,
+    precision: Precision,
 }
 
 impl Decimal {
     // Decimal with so many digits, four to eight; refused with 20 for any other count.
     pub fn new(digits: u8) -> Result<Decimal, Refusal>
-        ensures { told_making result ≡ making digits }
+        ensures { told_making result ≡ making_answer digits }
     {
         let precision = Precision::new(digits).ok_or(Refusal::Digits)?;
-        Ok(Decimal { precision })
+        Ok(precision.into())
+    }
+}
+
+// Where there is a count of digits that is from four to eight, nothing is left to be refused.
+impl From<Precision> for Decimal {
+    ghost from_gives = { λ p r. r.precision ≡ p };
+
+    fn from(precision: Precision) -> Decimal {
+        Decimal { precision }
     }
 }
 

@@ -74,7 +74,7 @@ fn work<A: Arithmetic>(
 }
 
 // Works a card in the arithmetic of the format with a number. The highest order of its bench is the count of its zeros, but at least 1 and at
-// most 64. Answer k is the value and the bound of order k; where that is refused it is left as it was.
+// most 64. Answer k is the value and the bound of order k; where that is refused it is left as it was, and all are where no format has the number.
 #[unsafe(no_mangle)]
 pub extern "C" fn coef_card(format: u8, zeros: &[u64], answers: &mut [[u64; 2]])
     ensures { CardIn format zeros.now answers.old answers.new }
@@ -86,7 +86,7 @@ pub extern "C" fn coef_card(format: u8, zeros: &[u64], answers: &mut [[u64; 2]])
             work(&mut Binary64, &mut cells[..=highest_order], zeros, answers)
         }
         Some(Format::Decimal(precision)) => {
-            let mut decimal = Decimal { precision };
+            let mut decimal = Decimal::from(precision);
             let mut cells = [empty(&decimal); 65];
             work(&mut decimal, &mut cells[..=highest_order], zeros, answers)
         }

@@ -14,7 +14,8 @@ use operations::{admission, at_most, lift, split_product, split_sum};
 use patterns::Pattern;
 
 // What an operation answers. `outcome` is 0 for an answer, 1 to 3 for the cause for which an operand is no number (of the first such
-// operand), 4 for a refusal, and 5 where there is no such operation; where it is not 0 the other two are 0. `error` is 0 but for splits.
+// operand), 4 for a refusal, and 5 where no format or no operation has the number, or a number would be lifted by more than 192; where it is
+// not 0 the other two are 0. `error` is 0 but for splits.
 #[repr(C)]
 #[derive(Clone, Copy)]
 pub struct OutsideAnswer {
@@ -117,7 +118,7 @@ pub extern "C" fn coef_operate(format: u8, operation: u8, a: u64, b: u64) -> Out
 {
     match Format::of_number(format) {
         Some(Format::Binary64) => work(&mut Binary64, operation, a, b),
-        Some(Format::Decimal(precision)) => work(&mut Decimal { precision }, operation, a, b),
+        Some(Format::Decimal(precision)) => work(&mut Decimal::from(precision), operation, a, b),
         None => without_number(NO_OPERATION),
     }
 }

@@ -166,5 +166,7 @@ fn main(rt: HostRuntime) -> io::Result<()> {
     of_range(&rt)?;
     of_report(&rt)?;
     show_making(&rt, 3)?;
+    show_making(&rt, 4)?;
+    show_making(&rt, 8)?;
     show_making(&rt, 9)
 }

@@ -157,7 +157,7 @@ pub fn report_sheet<S: Sink>(sheet: &[u8], out: &mut S) -> Result<usize, S::Refu
                 report_opened(sheet, &mut Binary64, &mut cells, out)
             }
             Format::Decimal(precision) => {
-                let mut decimal = Decimal { precision };
+                let mut decimal = Decimal::from(precision);
                 let mut cells = [empty(&decimal); 65];
                 report_opened(sheet, &mut decimal, &mut cells, out)
             }

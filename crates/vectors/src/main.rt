@@ -1,8 +1,8 @@
 // Compares the operations of the arithmetics with those of outside libraries, whose results are read from standard input.
 //
-// A line `binary64`, or `decimal4` to `decimal8`, opens a section. Its lines are `sum A B = R E` and `product A B = R E`, with the rounded result and its error part;
-// `lift A m = R`; `admit A = N`; `at-most A B = yes` or `no`. A refused operation has `-` for its results, a pattern that is not admitted
-// `!` and the number of the cause. Lines that begin with `#` are comments.
+// A line `binary64`, or `decimal4` to `decimal8`, opens a section. Its lines are `sum A B = R E` and `product A B = R E`, with the rounded
+// result and its error part; `lift A m = R`; `admit A = N`; `at-most A B = yes` or `no`. A refused operation has `-` for its results, a pattern
+// that is not admitted `!` and the number of the cause. Lines that begin with `#` are comments.
 #![tactic(auto)]
 
 use section::Section;

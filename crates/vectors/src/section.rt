@@ -46,7 +46,7 @@ impl Section {
         let vector = parse(question)?;
         Some(match self.format {
             Format::Binary64 => work(&mut Binary64, vector),
-            Format::Decimal(precision) => work(&mut Decimal { precision }, vector),
+            Format::Decimal(precision) => work(&mut Decimal::from(precision), vector),
         })
     }
 
